@@ -8,9 +8,9 @@ use zaluxhoni::{
 /// bytes.
 fn fill(segment: &mut Segment, name: &Name) -> Result<u64, Refusal> {
     segment.construct(name, 1, 640i64)?;
-    segment.find_or_construct(name, 3, 0i64)?;
+    segment.find_or_construct_array(name, 3, 0i64)?;
     segment.construct(&UniqueInstance, 1, 7i32)?;
-    segment.construct(&AnonymousInstance, 3, 9u8)
+    segment.construct_array(&AnonymousInstance, 3, 9u8)
 }
 
 /// Prints the first object of each index.

@@ -2,10 +2,12 @@
 use anyhow::Result;
 use zaluxhoni::{Disk, Name, Refusal, Segment, SegmentFile, named};
 
-/// Makes an array of the next five items of an iterator, which goes on after them.
+/// Makes an array of the next five items of an iterator, which goes on after them. If the array is there already, no
+/// item is taken.
 fn keep_five(segment: &mut Segment, name: &Name) -> Result<(i64, usize), Refusal> {
     let mut primes = [2i64, 3, 5, 7, 11, 13].into_iter();
     segment.construct_it(name, 5, &mut primes)?;
+    segment.find_or_construct_it(name, 5, &mut primes)?;
     let last = segment.get(name, 4)?;
     Ok((last, primes.count()))
 }

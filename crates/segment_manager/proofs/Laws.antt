@@ -27,7 +27,7 @@ pub use Rattle.segment_manager.proofs.directory.HeapCalls.{denotes-heap, denotes
 pub use Rattle.segment_manager.proofs.objects.KindCodes.{code-read}
 -- a value as a literal means the same as its own literal, for each kind of object; the object of a key that is no
 -- vector of texts
-pub use Rattle.segment_manager.proofs.objects.AnyKind.{any-no_value, any-replies, kind-no_texts, scalars-replies}
+pub use Rattle.segment_manager.proofs.objects.AnyKind.{any-no_value, kind-no_texts, scalars-replies}
 -- a located object is the object of its key, and a step for its handle is a step for the key
 pub use Rattle.segment_manager.proofs.objects.Locating.{IsSaidAt, kind-by_key, located-here, located-steps, said-at}
 pub use Rattle.segment_manager.proofs.objects.Locating.{same-object, step-by_key, step-same, step_of_kind-by_key}
@@ -55,6 +55,5 @@ pub use Rattle.segment_manager.proofs.blocks.OwnWalks.{objects-few, tile-here}
 -- the elements of a key's object, one after another: the result of reading one, and their number
 unfoldable pub use Rattle.segment_manager.proofs.objects.ElementLists.{got}
 pub use Rattle.segment_manager.proofs.objects.ElementLists.{text-read}
--- the pairs of a key's map of kinds: functions of the map are functions of them; their number; they rise by their map
--- keys
-pub use Rattle.segment_manager.proofs.containers.MapLists.{map-least, map-length, map-rises, map-told}
+-- the pairs of a key's map of kinds: functions of the map are functions of them; they rise by their map keys
+pub use Rattle.segment_manager.proofs.containers.MapLists.{map-least, map-rises, map-told}

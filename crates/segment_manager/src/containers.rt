@@ -9,5 +9,6 @@ pub(crate) mod ranges;
 pub(crate) mod releasing;
 pub(crate) mod storage;
 pub(crate) mod storages;
+pub(crate) mod text_lists;
 pub(crate) mod texts;
 pub(crate) mod vectors;

@@ -7,6 +7,7 @@ pub(crate) mod destroying;
 pub(crate) mod element;
 pub(crate) mod finding;
 pub(crate) mod finding_or_constructing;
+pub(crate) mod finding_or_taking;
 pub(crate) mod head;
 pub(crate) mod instance_info;
 pub(crate) mod object_ref;

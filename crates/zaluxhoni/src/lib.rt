@@ -9,12 +9,13 @@
 //!
 //! | Call | Condition | Without it |
 //! |---|---|---|
-//! | `construct`, `find_or_construct` | a count from 1 to 1048576 | |
+//! | `construct`, `find_or_construct` | a count from 1 to 1048576 | `construct_array` |
 //! | a [`ConstructKey`] with a kind | the kind of the new object | a [`Name`] |
 //! | `create`, `relocate`, [`open`], [`verify`] | a base that is a multiple of 16 | |
 //!
-//! The condition of `construct` holds for every call that takes a `ScalarValue` and a count. [`UniqueInstance`] and
-//! [`AnonymousInstance`] are keys without a kind too. [`open_image`], [`open_bytes`] and [`open_any`] also take a base.
+//! The condition of `construct` holds for every call that takes a `ScalarValue` and a count; the other call without
+//! it is `find_or_construct_array`. [`UniqueInstance`] and [`AnonymousInstance`] are keys without a kind too.
+//! [`open_image`], [`open_bytes`] and [`open_any`] also take a base.
 //!
 //! The layers below a segment ([`Heap`], [`SegVec`], [`Window`], [`RawRegion`]) are for types of your own. They require
 //! the caller to manage the layout.

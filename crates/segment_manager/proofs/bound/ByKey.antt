@@ -1,29 +1,22 @@
 -- What a call on a bound object says of the object's key.
 use Rattle.segment_manager.proofs.Common.{◌≡◌, sym, ap, ◌∙◌, subst, ℤ, None, Some, Ok, Err, Option, Result, List, []}
-use Rattle.segment_manager.proofs.Common.{Kind, ScalarKind, Key, Command, Answer, Refusal, NotFound}
-use Rattle.segment_manager.proofs.Common.{WrongKind}
-use Rattle.segment_manager.proofs.Common.{Map, same_kind, AnswersWith, AnswersQueryOfKind, TakesStepOfKind}
-use Rattle.segment_manager.proofs.Common.{SegmentState}
+use Rattle.segment_manager.proofs.Common.{Kind, ScalarKind, Key, Command, Answer, Refusal, NotFound, WrongKind, Map}
+use Rattle.segment_manager.proofs.Common.{same_kind, AnswersWith, AnswersQueryOfKind, TakesStepOfKind, SegmentState}
 use Rattle.segment_manager.proofs.Common.{IsLocated, Located, Object, NumberPair, kind_of, told_of, answer_of_map}
 use Rattle.segment_manager.proofs.Common.{if◌then◌else◌, pairs_of, UnchangedWhere, object_at, is_changing, Refused}
-use Rattle.segment_manager.proofs.Common.{exit-is, refusal_in, refusal_of}
-use Rattle.segment_manager.proofs.Common.{refl, true, ℕ, OnErr, IsNotToChange, LeadsOnOfKind, answer_of}
-use Rattle.std.specs.Prelude.{IsErrAnd}
-use Rattle.segment_manager.proofs.Common.{false, Directory, DenotesCurrent, int_lt, pair_at, pairs_at}
-use Rattle.segment_manager.proofs.Common.{MatchResult, IsSegment, IsObjectInBlock, handle_at}
-use Rattle.segment_manager.proofs.containers.RangeCalls.{no-same}
+use Rattle.segment_manager.proofs.Common.{exit-is, refusal_in, refusal_of, refl, true, ℕ, OnErr, IsNotToChange}
+use Rattle.segment_manager.proofs.Common.{LeadsOnOfKind, answer_of, false, Directory, DenotesCurrent, int_lt, pair_at}
+use Rattle.segment_manager.proofs.Common.{pairs_at, MatchResult, IsSegment, IsObjectInBlock, handle_at}
 use Rattle.segment_manager.proofs.containers.Refilled.{finds-no_container, placed, told-none, told-some}
-use Rattle.segment_manager.proofs.objects.Locating.{IsSaidAt, said-at}
-use Rattle.segment_manager.proofs.containers.{StorageSteps.step_of_kind-reply, ToChange.not-changed}
-use Rattle.segment_manager.proofs.directory.CommandSteps.{open-reading}
-use Rattle.segment_manager.proofs.{objects.Here.nothing-if, objects.Here.seen-object, objects.Standings.alike}
-use Rattle.segment_manager.proofs.objects.Locating.{head-located, locates}
-use Rattle.segment_manager.proofs.objects.Locating.{leads_on-by_key, reply_of_kind-by_key, same-object}
-use Rattle.segment_manager.proofs.objects.Locating.{step_of_kind-by_key, told-by_key}
+use Rattle.segment_manager.proofs.objects.Locating.{IsSaidAt, said-at, head-located, locates, leads_on-by_key}
+use Rattle.segment_manager.proofs.objects.Locating.{reply_of_kind-by_key, same-object, step_of_kind-by_key, told-by_key}
 use Rattle.segment_manager.specs.Keeping.{ChangesValue, LacksFirst, LacksPair}
-use Rattle.segment_manager.specs.Laws.{at_key}
 use Rattle.segment_manager.specs.objects.BoundObjects.{IsBound, LacksKind, key_of}
-use Rattle.segment_manager.specs.objects.Located.{IsObject, located}
+use Rattle.std.specs.Prelude.{IsErrAnd}
+use Rattle.segment_manager.proofs.{containers.RangeCalls.no-same, containers.StorageSteps.step_of_kind-reply}
+use Rattle.segment_manager.proofs.{containers.ToChange.not-changed, directory.CommandSteps.open-reading}
+use Rattle.segment_manager.proofs.{objects.Here.nothing-if, objects.Here.seen-object, objects.Standings.alike}
+use Rattle.segment_manager.specs.{Laws.at_key, objects.Located.IsObject, objects.Located.located}
 
 module _ {s t : SegmentState} (same : t ≡ s) {key : Key} {o : Located} (l : IsLocated s key o) where
   -- an answer

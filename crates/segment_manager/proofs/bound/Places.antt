@@ -1,17 +1,15 @@
 -- The place of the container of a bound object, and that the object stays bound.
 use Rattle.segment_manager.proofs.Common.{◌≡◌, sym, subst, ap, ◌∙◌, true, false, Option, Ok, Result, Refusal}
 use Rattle.segment_manager.proofs.Common.{IsSomeText, IsTextsContainer, LeadsOnOfKind, Place, String, StringsKind}
-use Rattle.segment_manager.proofs.Common.{WindowState, is_read_only}
-use Rattle.segment_manager.proofs.Common.{Kind, code_of, same_kind, Key, Command, Answer, container_at, AnswersWith}
-use Rattle.segment_manager.proofs.Common.{SegmentState, IsSegment, TakesStepOfKind, is_elementwise, Located}
-use Rattle.segment_manager.proofs.Common.{eq-eqb, refl}
-use Rattle.segment_manager.proofs.containers.{TextAnswers.text-standing, TextListCalls.texts-standing}
+use Rattle.segment_manager.proofs.Common.{WindowState, is_read_only, Kind, code_of, same_kind, Key, Command, Answer}
+use Rattle.segment_manager.proofs.Common.{container_at, AnswersWith, SegmentState, IsSegment, TakesStepOfKind}
+use Rattle.segment_manager.proofs.Common.{is_elementwise, Located, eq-eqb, refl}
+use Rattle.segment_manager.specs.objects.BoundObjects.{IsBound, container_of, key_of}
+use Rattle.segment_manager.proofs.{containers.TextAnswers.text-standing, containers.TextListCalls.texts-standing}
 use Rattle.segment_manager.proofs.containers.Refilled.{placed, told-some}
 use Rattle.segment_manager.proofs.objects.Locating.{IsSaidAt, said-at}
 use Rattle.segment_manager.proofs.objects.StayingObjects.{leads_on-stay, objects_stay}
-use Rattle.segment_manager.specs.containers.ToChange.{IsChangeableContainer}
-use Rattle.segment_manager.specs.objects.BoundObjects.{IsBound, container_of, key_of}
-use Rattle.segment_manager.specs.objects.Located.{IsObject}
+use Rattle.segment_manager.specs.{containers.ToChange.IsChangeableContainer, objects.Located.IsObject}
 
 module _ {kind : Kind} {o : Located} {s : SegmentState} (b : IsBound kind o s) where
   same : same_kind kind o.kind ≡ true

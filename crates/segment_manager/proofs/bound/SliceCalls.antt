@@ -1,38 +1,32 @@
 -- Calls on bound arrays and vectors: what they leave of the object, and what they say of the object's key.
 use Rattle.segment_manager.proofs.Common as common
 use Rattle.seg_types.specs.Commands as asked
-use common.{◌≡◌, refl, sym, ap, subst, ◌∙◌, ℕ, ◌+◌, ℤ, Bool, true, false, Option, Some, None, Result, Ok, Err}
-use common.{List}
-use common.{[], length, slice_get, arith, nat_lt, WindowState, Kind, ScalarKind, Scalar, Vector, Key}
-use common.{Answer}
-use common.{Refusal, NotFound, OutOfRange, ReadOnly, Element, Refused, Done, Directory, Object, Value}
-use common.{Numbers}
-use common.{Elements, kind_of, object_at, live, get, perform, code_of, same_kind, eq-eqb, SegmentState, DenotesCurrent}
-use common.{IsSegment, AnswersWith, AnswersQueryOfKind, step_of_kind, answer_of, done_answer, is_read_only, Located}
-use common.{Place}
-use common.{IsLocated, IsNotToChange, container_at, if◌then◌else◌}
-use common.{size_of, exit-is, slice_get_past, ltb-false, storage_of, with, Refuse, Get, SameBytesExcept, bytes_of}
+use common.{◌≡◌, refl, sym, ap, subst, ◌∙◌, ℕ, ◌+◌, ℤ, Bool, true, false, Option, Some, None, Result, Ok, Err, List, []}
+use common.{length, slice_get, arith, nat_lt, WindowState, Kind, ScalarKind, Scalar, Vector, Key, Answer, Refusal}
+use common.{NotFound, OutOfRange, ReadOnly, Element, Refused, Done, Directory, Object, Value, Numbers, Elements}
+use common.{kind_of, object_at, live, get, perform, code_of, same_kind, eq-eqb, SegmentState, DenotesCurrent, IsSegment}
+use common.{AnswersWith, AnswersQueryOfKind, step_of_kind, answer_of, done_answer, is_read_only, Located, Place}
+use common.{IsLocated, IsNotToChange, container_at, if◌then◌else◌, size_of, exit-is, slice_get_past, ltb-false}
+use common.{storage_of, with, Refuse, Get, SameBytesExcept, bytes_of}
 use Rattle.std.specs.Prelude.{IfOk, IsErrAnd, OnOk}
+use Rattle.segment_manager.specs.objects.ElementLists.{element_of, numbers_at, numbers_in, whole_of}
+use Rattle.segment_manager.proofs.containers.Extending.{VectorExtended, extended-missing, extended-reading}
+use Rattle.segment_manager.proofs.containers.RangeCalls.{HasNumbers, RangeWritten, index_at, many, numbers-of}
+use Rattle.segment_manager.proofs.containers.Refilled.{by-kind, placed, told-none, told-some, told_if}
+use Rattle.segment_manager.proofs.directory.CommandSteps.{moves-same, open-reading, open-writing}
+use Rattle.segment_manager.proofs.directory.CommandSteps.{refuses_of_kind-read_only, step_of_kind-found}
+use Rattle.segment_manager.proofs.directory.CommandSteps.{step_of_kind-not_found, step_of_kind-other, with-found}
+use Rattle.segment_manager.proofs.objects.ElementLists.{list-of, numbers-listed, told}
+use Rattle.segment_manager.proofs.objects.Locating.{IsSaidAt, said-at, same-object}
 use Rattle.std.specs.Option.{ok_or}
 use Rattle.best_fit.specs.Heap.{KeepsGaps}
 use Rattle.best_fit.proofs.Laws.{gaps-refl}
 use Rattle.segment_manager.specs.{Keeping.ChangesElement, objects.Located.element_in}
 use Rattle.segment_manager.specs.containers.Ranges.{ExtendsVector, extended}
 use Rattle.segment_manager.specs.objects.BoundObjects.{IsBound, key_of}
-use Rattle.segment_manager.specs.objects.ElementLists.{element_of, numbers_at, numbers_in, whole_of}
-use Rattle.segment_manager.proofs.bound.ByKey.{from-to}
-use Rattle.segment_manager.proofs.containers.ContentPlans.{clear-plan}
-use Rattle.segment_manager.proofs.containers.Extending.{VectorExtended, extended-missing, extended-reading}
-use Rattle.segment_manager.proofs.containers.{Extending.extended-stays, Extending.of_object, ItemSteps.vector-only}
-use Rattle.segment_manager.proofs.containers.RangeCalls.{HasNumbers, RangeWritten, index_at, many, numbers-of}
-use Rattle.segment_manager.proofs.containers.RangeCalls.{on_ok-map}
-use Rattle.segment_manager.proofs.containers.Refilled.{by-kind, placed, told-none, told-some}
-use Rattle.segment_manager.proofs.containers.Refilled.{told_if}
-use Rattle.segment_manager.proofs.directory.CommandSteps.{moves-same, open-reading, open-writing}
-use Rattle.segment_manager.proofs.directory.CommandSteps.{refuses_of_kind-read_only, step_of_kind-found}
-use Rattle.segment_manager.proofs.directory.CommandSteps.{step_of_kind-not_found, step_of_kind-other, with-found}
-use Rattle.segment_manager.proofs.objects.ElementLists.{list-of, numbers-listed, told}
-use Rattle.segment_manager.proofs.objects.{Locating.IsSaidAt, Locating.said-at, Locating.same-object}
+use Rattle.segment_manager.proofs.{bound.ByKey.from-to, containers.ContentPlans.clear-plan}
+use Rattle.segment_manager.proofs.containers.Extending.{extended-stays, of_object}
+use Rattle.segment_manager.proofs.{containers.ItemSteps.vector-only, containers.RangeCalls.on_ok-map}
 use Rattle.segment_manager.proofs.objects.StayingObjects.{extends-stay, writes-stay}
 
 -- ---- arrays

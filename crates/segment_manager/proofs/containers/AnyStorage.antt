@@ -1,14 +1,12 @@
 -- A call on any object with storage: the kind of the key's object decides which call it is.
-use Rattle.segment_manager.proofs.Common.{◌≡◌, refl, sym, ap, ◌∙◌, false, Option, Some, None, Result, Ok, Err}
-use Rattle.segment_manager.proofs.Common.{eq-eqb, Kind, Refusal, NotFound, WrongKind, code_of, Key, Command, Answer}
-use Rattle.segment_manager.proofs.Common.{Refused, kind_at, Directory, Object}
-use Rattle.segment_manager.proofs.Common.{kind_of, live, object_at, IsMissing, Refuse, perform, AnswersWith, TakesStep}
-use Rattle.segment_manager.proofs.Common.{TakesStepOfKind, SegmentState, effect, has_storage, is_read_only, step}
-use Rattle.segment_manager.proofs.Common.{step_of_kind}
+use Rattle.segment_manager.proofs.Common.{◌≡◌, refl, sym, ap, ◌∙◌, false, Option, Some, None, Result, Ok, Err, eq-eqb}
+use Rattle.segment_manager.proofs.Common.{Kind, Refusal, NotFound, WrongKind, code_of, Key, Command, Answer, Refused}
+use Rattle.segment_manager.proofs.Common.{kind_at, Directory, Object, kind_of, live, object_at, IsMissing, Refuse}
+use Rattle.segment_manager.proofs.Common.{perform, AnswersWith, TakesStep, TakesStepOfKind, SegmentState, effect}
+use Rattle.segment_manager.proofs.Common.{has_storage, is_read_only, step, step_of_kind, Mode, Change, command_of}
 use Rattle.segment_manager.proofs.containers.StorageSteps.{change-refused, no-storage}
-use Rattle.segment_manager.proofs.{Common.Mode, Common.Change, Common.command_of, containers.Refilled.refused-steps}
-use Rattle.segment_manager.proofs.{directory.CommandSteps.step_of_kind-step}
-use Rattle.segment_manager.proofs.{directory.CommandSteps.moves-same}
+use Rattle.segment_manager.proofs.containers.Refilled.{refused-steps}
+use Rattle.segment_manager.proofs.directory.CommandSteps.{step_of_kind-step, moves-same}
 
 -- the object of the key, which is of the kind
 pub record IsOfKindAt (d : Directory) (key : Key) (kind : Kind) : Type 0 where

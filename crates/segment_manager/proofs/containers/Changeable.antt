@@ -3,14 +3,12 @@ use Rattle.segment_manager.proofs.Common.{◌≡◌, refl, sym, ap, subst, ◌�
 use Rattle.segment_manager.proofs.Common.{Refusal, Key, ByHandle, Command, is_changing, Mode, Answer, Refused, kind_at}
 use Rattle.segment_manager.proofs.Common.{IsChangeable, IsChangeableObject, IsUnchangeable, Directory, live, IsMissing}
 use Rattle.segment_manager.proofs.Common.{IsLocated, Plan, Refuse, perform, AnswersWith, AnswersQuery, TakesStep}
-use Rattle.segment_manager.proofs.Common.{SegmentState, DenotesCurrent}
-use Rattle.segment_manager.proofs.{Common.effect, Common.is_read_only, directory.CommandSteps.open-reading}
-use Rattle.segment_manager.proofs.{directory.CommandSteps.step-effect}
-use Rattle.segment_manager.proofs.{Common.step, containers.AnyStorage.nowhere-steps, containers.Refilled.refused-steps}
-use Rattle.segment_manager.proofs.{directory.CommandSteps.refuses-read_only, objects.Locating.kind-by_key}
-use Rattle.segment_manager.proofs.{objects.Locating.located-here}
-use Rattle.segment_manager.specs.{declared.modes.Mode.TheVariants.ReadOnly, declared.objects.object_ref.Object.Object}
+use Rattle.segment_manager.proofs.Common.{SegmentState, DenotesCurrent, effect, is_read_only, step}
+use Rattle.segment_manager.proofs.directory.CommandSteps.{open-reading, step-effect, refuses-read_only}
 use Rattle.seg_types.specs.declared.refusals.Refusal.TheVariants as refusal
+use Rattle.segment_manager.proofs.{containers.AnyStorage.nowhere-steps, containers.Refilled.refused-steps}
+use Rattle.segment_manager.proofs.objects.Locating.{kind-by_key, located-here}
+use Rattle.segment_manager.specs.{declared.modes.Mode.TheVariants.ReadOnly, declared.objects.object_ref.Object.Object}
 
 -- ---- an object that was located
 

@@ -9,15 +9,14 @@ use common.{ExchangesBlocks, contents_of, is_good_value, value_extents, arith, S
 use common.{spelled, kind_of, Denotes, changed, option_to_list, IsContainerAt, container_place, has_good_name}
 use common.{AllByRecursion, current, bytes_of, has_backing, place_at, Contents, Elements, count_of, IsObjectInBlock}
 use Rattle.segment_manager.proofs.objects.Exchanged.{Exchange, between, denotes-container}
+use Rattle.raw_region.proofs.Facts.{second, first, no_more}
 use Rattle.segment_manager.proofs.containers.MapBlocks.{BlocksInUse, blocks-in_use}
 use Rattle.segment_manager.proofs.objects.Rewritten.{value_start, with_value}
 use Rattle.segment_manager.proofs.{blocks.Blocks.spelled-length, objects.Here.standing}
-use Rattle.segment_manager.proofs.{directory.HeapCalls.denotes-heap}
-use Rattle.segment_manager.proofs.{directory.HeapCalls.denotes-live, objects.ObjectLists.key-found}
-use Rattle.segment_manager.proofs.{objects.Standings.standing-room}
-use Rattle.segment_manager.proofs.{directory.Frame.object-roomy, directory.LiveSet.IsIn, directory.ExtentOrder.Differs}
-use Rattle.segment_manager.proofs.{directory.ExtentOrder.IsFoundIn}
-use Rattle.raw_region.proofs.Facts.{second, first, no_more}
+use Rattle.segment_manager.proofs.directory.HeapCalls.{denotes-heap, denotes-live}
+use Rattle.segment_manager.proofs.{objects.ObjectLists.key-found, objects.Standings.standing-room}
+use Rattle.segment_manager.proofs.{directory.Frame.object-roomy, directory.LiveSet.IsIn}
+use Rattle.segment_manager.proofs.directory.ExtentOrder.{Differs, IsFoundIn}
 
 -- ---- the value
 

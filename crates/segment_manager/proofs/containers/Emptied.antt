@@ -1,15 +1,13 @@
 -- The directory with an object's value emptied: the same but for that object, which has one block then.
 use Rattle.segment_manager.proofs.Common.{◌≡◌, ByHandle, emptied, Numbers, count_of, has_key, kind_of, changed, by_name}
-use Rattle.segment_manager.proofs.Common.{◌≢◌, refl, sym, ap, ◌∙◌, Some, List, [], ◌∷◌, cond, find, Value}
-use Rattle.segment_manager.proofs.Common.{subst, eq-eqb, ne_eqb, handle, Scalar, Index, Named, Unique, Object, by_kind}
-use Rattle.segment_manager.proofs.Common.{IsTrue, ScalarKind, Directory, value_len, entries_of, NamedClass, UniqueClass}
+use Rattle.segment_manager.proofs.Common.{◌≢◌, refl, sym, ap, ◌∙◌, Some, List, [], ◌∷◌, cond, find, Value, subst}
+use Rattle.segment_manager.proofs.Common.{eq-eqb, ne_eqb, handle, Scalar, Index, Named, Unique, Object, by_kind, IsTrue}
+use Rattle.segment_manager.proofs.Common.{ScalarKind, Directory, value_len, entries_of, NamedClass, UniqueClass}
 use Rattle.segment_manager.proofs.Common.{is_good_value, remove_object, replace_object, value_extents, without_object}
 use Rattle.segment_manager.proofs.directory.LiveSet.{IsFound, IsIn, Place, behind, found-nothing, found-place, here}
-use Rattle.segment_manager.proofs.directory.LiveSet.{remove-behind}
-use Rattle.segment_manager.proofs.{directory.LiveSet.remove-here, directory.LiveSet.replace-here}
-use Rattle.segment_manager.proofs.{directory.IndexedParts.by_name-face, directory.IndexedParts.by_kind-face}
-use Rattle.segment_manager.proofs.{directory.LiveSet.replace-behind, objects.Rewritten.with_value}
-use Rattle.segment_manager.proofs.{directory.IndexedParts.ordered-changed}
+use Rattle.segment_manager.proofs.directory.LiveSet.{remove-behind, remove-here, replace-here, replace-behind}
+use Rattle.segment_manager.proofs.directory.IndexedParts.{by_name-face, by_kind-face, ordered-changed}
+use Rattle.segment_manager.proofs.objects.Rewritten.{with_value}
 
 -- ---- the value
 

@@ -5,16 +5,16 @@ use common.{if◌then◌else◌, eq-eqb, WindowState, current, ScalarKind, Vecto
 use common.{NotFound, ReadOnly, WrongKind, Mode, Done, Refused, Directory, Object, Elements, kind_of, object_at}
 use common.{changed, is_read_only, SegmentState, DenotesCurrent, Denotes, Plan, Refuse, Reply, perform, with}
 use common.{with_capacity, found_at, live, live_of, grown_backing, BackingArray, container_at}
-use Rattle.seg_vector.specs.Vector.{capacity_for_more}
 use Rattle.segment_manager.specs.containers.Ranges.{ExtendsVector, extend, extended}
+use Rattle.segment_manager.proofs.containers.Refilled.{told-none, told-some, by-kind, not-Err, placed, room-grown}
+use Rattle.segment_manager.proofs.directory.CommandSteps.{by_same, with-found, with-not_found}
+use Rattle.seg_vector.specs.Vector.{capacity_for_more}
 use Rattle.segment_manager.proofs.{directory.HeapCalls.denotes-live, containers.Safely.Performed}
-use Rattle.segment_manager.proofs.{containers.Refilled.told-none}
-use Rattle.segment_manager.proofs.{containers.Refilled.told-some, directory.CommandSteps.by_same}
-use Rattle.segment_manager.proofs.{directory.CommandSteps.with-found, directory.CommandSteps.with-not_found}
-use Rattle.segment_manager.proofs.containers.Refilled.{by-kind, not-Err, placed, room-grown, same_Err, then_room}
+use Rattle.segment_manager.proofs.containers.Refilled.{same_Err, then_room}
 
 -- ---- the plan
 
+-- the plan for the object of a key
 abbrev pub of_object : Directory → ScalarKind → List ℤ → Object → Plan
 of_object d k more o = if same_kind (Vector k) (kind_of o.value) then extend d o o.value more else Refuse WrongKind
 

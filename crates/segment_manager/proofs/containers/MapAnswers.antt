@@ -7,19 +7,18 @@ use Rattle.segment_manager.proofs.Common.{FindsLastItem, FindsValue, IsSomeMap, 
 use Rattle.segment_manager.proofs.Common.{answer_of_map, value_or_absent, AnswersWith, AnswersQueryOfKind, IsSegment}
 use Rattle.segment_manager.proofs.Common.{SegmentState, is_read_only, List, NumberPair, int_lt, item_of, truth_answer}
 use Rattle.segment_manager.proofs.containers.MapCalls.{TellsSafely, map-erased, map-got, map-put, map-told, put_result}
-use Rattle.segment_manager.proofs.{containers.MapCalls.stands-map, containers.ToChange.seen-found}
 use Rattle.segment_manager.proofs.containers.PairNumbers.{IsScalarOf, counts-numbers, erases-numbers, finds-back}
 use Rattle.segment_manager.proofs.containers.PairNumbers.{finds-item, finds-last, finds-value, puts-numbers, some-map}
+use Rattle.segment_manager.proofs.containers.PairNumbers.{counts-past, has-node, nodes-past, reads-node, reads-past}
+use Rattle.std.proofs.Common.{ℕ, length, map}
+use Rattle.segment_manager.specs.containers.Maps.{count_read, nodes_read, number_item, pairs_read, IsPairs}
+use Rattle.segment_manager.specs.containers.Walks.{HasPairNode, ReadsPairNode, pairs_at_kinds, pair_past}
+use Rattle.seg_map.specs.Listing.{HasNode, ListsNodes, ReadsNode, ReadsPairs}
+use Rattle.segment_manager.proofs.containers.MapCalls.{stands-map, map-listed}
+use Rattle.segment_manager.proofs.containers.ToChange.{seen-found}
 use Rattle.segment_manager.proofs.containers.Safely.{answered, Answered}
 use Rattle.best_fit.specs.declared.places.Place.{Place}
 use Rattle.seg_map.specs.{Changing.CountsPairs, Places.last_pair}
-use Rattle.std.proofs.Common.{ℕ, length, map}
-use Rattle.segment_manager.specs.containers.Maps.{count_read, nodes_read, number_item, pairs_read}
-use Rattle.segment_manager.specs.containers.Walks.{HasPairNode, ReadsPairNode, pairs_at_kinds}
-use Rattle.seg_map.specs.Listing.{HasNode, ListsNodes, ReadsNode, ReadsPairs}
-use Rattle.segment_manager.proofs.containers.PairNumbers.{counts-past, has-node, nodes-past, reads-node, reads-past}
-use Rattle.segment_manager.proofs.containers.MapCalls.{map-listed}
-use Rattle.segment_manager.specs.{containers.Maps.IsPairs, containers.Walks.pair_past}
 
 -- a key that is a value is a number of its kind
 as-value : {T : Type 0} {j : ScalarKind} {tp : Plain T} {w : T → ℤ} → IsScalarOf j tp w → (x : T) → tp.is_value x ≡ true

@@ -14,22 +14,19 @@ use common.{Command, Literal, pair_at, Element, Refused, Denotes, kind_of, SameS
 use common.{AnswersQueryOfKind, TakesStepOfKind, is_read_only, step_of_kind, truth_answer, ScalarKind, same_kind}
 use common.{literal_of, transitive, OverwritesPair, NumberPair, FindsValue, numbers_of, answer_of_map}
 use Rattle.segment_manager.proofs.containers.MapSteps.{IsMapObject, again-denotes, erased-denotes, map-only, object-map}
-use Rattle.segment_manager.proofs.{containers.MapSteps.put-denotes, directory.HeapCalls.denotes-live}
-use Rattle.segment_manager.proofs.{objects.ObjectLists.key-found}
-use Rattle.segment_manager.proofs.{objects.Here.standing, objects.Stored.literal-read}
 use Rattle.segment_manager.proofs.directory.CommandSteps.{IsMove, IsOpenFor, by_no_change_of_kind, by_step_of_kind}
-use Rattle.segment_manager.proofs.directory.CommandSteps.{open-reading}
-use Rattle.segment_manager.proofs.directory.CommandSteps.{open-writing, perform-new, perform-no_space}
-use Rattle.segment_manager.proofs.directory.CommandSteps.{step_of_kind-found}
+use Rattle.segment_manager.proofs.directory.CommandSteps.{open-reading, open-writing, perform-new, perform-no_space}
 use Rattle.segment_manager.proofs.containers.Refilled.{HoldsAt, holds-at, told-some}
+use Rattle.segment_manager.proofs.{containers.MapSteps.put-denotes, directory.HeapCalls.denotes-live}
+use Rattle.segment_manager.proofs.{objects.ObjectLists.key-found, objects.Here.standing, objects.Stored.literal-read}
+use Rattle.segment_manager.proofs.directory.CommandSteps.{step_of_kind-found}
 use Rattle.segment_manager.proofs.containers.PairNumbers.{ErasesBy, PutsBy}
 use Rattle.segment_manager.proofs.containers.MapBlocks.{blocks-in_use, found-key}
-use Rattle.segment_manager.proofs.containers.StorageSteps.{step_of_kind-reply}
+use Rattle.segment_manager.proofs.{containers.StorageSteps.step_of_kind-reply, objects.ElementLists.list-of}
 use Rattle.best_fit.specs.declared.places.Place.{Place}
 use Rattle.seg_map.proofs.Laws.{replaced_nodes}
-use Rattle.segment_manager.specs.{Answers.Absent, containers.Maps.IsPairs, containers.Walks.pairs_at_kinds}
-use Rattle.segment_manager.specs.containers.Walks.{pairs_of}
-use Rattle.segment_manager.proofs.objects.ElementLists.{list-of}
+use Rattle.segment_manager.specs.{Answers.Absent, containers.Maps.IsPairs}
+use Rattle.segment_manager.specs.containers.Walks.{pairs_at_kinds, pairs_of}
 
 -- ---- the search
 

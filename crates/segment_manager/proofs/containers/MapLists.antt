@@ -1,13 +1,13 @@
--- The pairs of a key's map of kinds: functions of them, their number, and the order of their map keys.
+-- The pairs of a key's map of kinds: functions of them, and the order of their map keys.
 use Rattle.segment_manager.proofs.Common.{◌≡◌, sym, ap, subst, ◌∙◌, ℕ, ℤ, true, false, Some, None, Ok, Err, List, []}
-use Rattle.segment_manager.proofs.Common.{Map, Key, Value, Option, NotFound, same_kind, is_rising, sizes_of, Directory}
-use Rattle.segment_manager.proofs.Common.{object_at, first_size, pair_from, first_of, Result, length, int_lt, current}
+use Rattle.segment_manager.proofs.Common.{Map, Key, Option, NotFound, same_kind, is_rising, Directory}
+use Rattle.segment_manager.proofs.Common.{object_at, pair_from, first_of, Result, int_lt, current}
 use Rattle.segment_manager.proofs.Common.{Refusal, lowest, item_of, Denotes, Object, kind_of, told_of, pairs_of}
-use Rattle.segment_manager.proofs.Common.{MatchResult, option_map, ScalarKind, WrongKind, NumberPair, length_at_kind}
+use Rattle.segment_manager.proofs.Common.{MatchResult, option_map, ScalarKind, WrongKind, NumberPair}
 use Rattle.segment_manager.proofs.containers.Refilled.{by-kind, told-none, told-some}
-use Rattle.segment_manager.proofs.objects.ElementLists.{list-of, listed-length, none-listed}
+use Rattle.segment_manager.proofs.objects.ElementLists.{list-of, none-listed}
 use Rattle.segment_manager.proofs.containers.PairWalks.{good-value, rising-if, starts, told-of-them}
-use Rattle.segment_manager.proofs.{Common.number_or_none, Common.answer_of_map, containers.AnyStorage.IsOfKindAt}
+use Rattle.segment_manager.proofs.{Common.answer_of_map, containers.AnyStorage.IsOfKindAt}
 use Rattle.segment_manager.proofs.{objects.Here.standing, containers.MapSteps.map-only}
 use Rattle.segment_manager.specs.containers.Walks.{pairs_at_kinds}
 
@@ -48,18 +48,6 @@ module _ (d : Directory) (key : Key) (k v : ScalarKind) where
       let is = map-only k v o.value g in
       answered-told (λ a. a ≡ say listed) (listed ≡ []) r (say is.0) (f ∙ told-some d key (Map k v) (λ o. told_of say
       o.value) o true e g ∙ ap (told_of say) is.1) (ap say (sym (those-of o e g ∙ ap pairs_of is.1))))
-
-  -- ---- their number
-
-  map-many : (w : Value) → same_kind (Map k v) (kind_of w) ≡ true → first_size (sizes_of w) ≡ Ok (length (pairs_of w))
-  map-many w e =
-      let is = map-only k v w e in ap (λ (w : Value). first_size (sizes_of w)) is.1
-      ∙ sym (ap (λ (w : Value). Ok (length (pairs_of w))) is.1)
-
-  -- the length of a map is the number of its pairs
-  pub map-length : (r : Result ℕ Refusal) → r ≡ length_at_kind d key (Map k v)
-      → number_or_none r ≡ length (pairs_at_kinds d key k v)
-  map-length r e = listed-length pairs_of d key (Map k v) map-many r e
 
   -- ---- the map keys rise, and the first pair is the first from the least key of the kind on
 

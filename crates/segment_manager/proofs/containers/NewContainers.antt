@@ -2,16 +2,15 @@
 use Rattle.segment_manager.proofs.Common as common
 use common.{◌≡◌, refl, sym, ap, subst, ◌∙◌, ℕ, ℤ, Bool, Some, None, Ok, Err, Result, List, [], length, map, IsTrue}
 use common.{MatchResult, option_to_list, length-map, current, WindowState, bytes_of, ExchangesBlocks, ChangesBytes}
-use common.{live_of, BackingArray, IsHeap}
-use common.{no_backing, keeps-refl, laid-heap, ScalarKind, Refusal, NoSpace, Content, Place, IsContainer, place_at}
-use common.{grown_backing, Assigns, GrowsVectorOk, LacksSpace, Contents, flat_map}
+use common.{live_of, BackingArray, IsHeap, no_backing, keeps-refl, laid-heap, ScalarKind, Refusal, NoSpace, Content}
+use common.{Place, IsContainer, place_at, grown_backing, Assigns, GrowsVectorOk, LacksSpace, Contents, flat_map}
 use common.{are_bytes, contents_of, has_values, Value, Elements, Bytes, count_of, kind_of, value_extents, value_len}
 use common.{MakesValueOk, MakesValueErr, MakesValue, Plan, bare, perform, with_storage, with_value}
-use Rattle.segment_manager.proofs.containers.Contained.{contents-good, value-said}
 use Rattle.segment_manager.proofs.objects.MadeValues.{storage-met, storage-none, stored}
 use Rattle.segment_manager.proofs.objects.WholeNumbers.{IsOfKind, whole-spelled, whole-values}
-use Rattle.seg_vector.specs.{TextCalls.MakesText, VectorCalls.InitsVector}
 use Rattle.seg_types.specs.Commands as asked
+use Rattle.segment_manager.proofs.containers.Contained.{contents-good, value-said}
+use Rattle.seg_vector.specs.{TextCalls.MakesText, VectorCalls.InitsVector}
 
 abbrev contents : ℕ → ℕ → List ℕ → BackingArray → Contents
 contents each len bytes t = record { each = each; len = len; table = t; bytes = bytes }

@@ -3,13 +3,12 @@ use Rattle.seg_types.specs.Commands as asked
 use Rattle.segment_manager.proofs.Common.{◌≡◌, refl, sym, subst, ℕ, Some, Ok, Err, Result, List, [], ◌∷◌, ◌++◌, length}
 use Rattle.segment_manager.proofs.Common.{IsTrue, option_to_list, list_all, current, WindowState, LiveSet, ChangesBytes}
 use Rattle.segment_manager.proofs.Common.{live_of, BackingArray, no_backing, Refusal, Place, place_at, IsHeap}
-use Rattle.segment_manager.proofs.Common.{ReplacesTexts, new_array}
-use Rattle.segment_manager.proofs.Common.{placed_texts, text_blocks, OwnedText, are_bytes, Texts, MakesValueOk}
-use Rattle.segment_manager.proofs.{Common.MakesValue, containers.TextsHeld.good-texts}
-use Rattle.seg_vector.specs.TextsCalls.{MakesTexts}
-use Rattle.segment_manager.proofs.containers.NewContainers.{unwritten}
-use Rattle.segment_manager.proofs.containers.PlacedTexts.{texts-bytes}
+use Rattle.segment_manager.proofs.Common.{ReplacesTexts, new_array, placed_texts, text_blocks, OwnedText, are_bytes}
+use Rattle.segment_manager.proofs.Common.{Texts, MakesValueOk, MakesValue}
 use Rattle.segment_manager.proofs.containers.TextPlans.{all-met, all-unmet, beside_array, beside_texts}
+use Rattle.segment_manager.proofs.{containers.TextsHeld.good-texts, containers.NewContainers.unwritten}
+use Rattle.segment_manager.proofs.containers.PlacedTexts.{texts-bytes}
+use Rattle.seg_vector.specs.TextsCalls.{MakesTexts}
 
 module _ (old mid new : WindowState) (p : Place) (change : ChangesBytes current old mid (place_at p) 24) where
   -- its texts are in their blocks

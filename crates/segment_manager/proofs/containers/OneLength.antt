@@ -9,21 +9,20 @@ use common.{SegmentState, Option, IsTrue, ScalarKind, RefillsContainer, has_valu
 use common.{command_of, grown_backing, List, LiveSet, MapKind, Refusal, NoSpace, Command, Reserve, Refused, Denotes}
 use common.{Numbers, kind_of, emptied, None, length, Memory, handle, IsContainer, Change, Shrink, Object, padded}
 use common.{perform, AnswersWith, changed, effect, Result, current, word_at, has_room, live_of, no_backing, place_at}
-use common.{Contents, sizes_of, Elements, IsObjectInBlock, bytes_of, StringsKind, container_at, contents_of}
-use common.{NotFound, sizes_at, is_read_only, StepsSafely, has_storage}
+use common.{Contents, sizes_of, Elements, IsObjectInBlock, bytes_of, StringsKind, container_at, contents_of, NotFound}
+use common.{sizes_at, is_read_only, StepsSafely, has_storage}
 use Rattle.segment_manager.proofs.containers.Contained.{contents-fit, contents-stand, of-contents, start-place}
 use Rattle.segment_manager.proofs.containers.Refilled.{HoldsAt, holds-at, refill-steps_of_kind, room-asked, then_room}
 use Rattle.segment_manager.proofs.containers.ContentPlans.{clear-plan, reserve-plan, shrink-plan}
-use Rattle.segment_manager.proofs.containers.KeptContainers.{enough-places, keeps-cut}
 use Rattle.segment_manager.proofs.directory.CommandSteps.{by_no_change_of_kind, step_of_kind-found, open-writing}
+use Rattle.segment_manager.specs.containers.Stored.{ChangesElements, IsElements, each_of}
+use Rattle.segment_manager.proofs.containers.KeptContainers.{enough-places, keeps-cut}
 use Rattle.segment_manager.proofs.objects.Standings.{standing-room, standing-short}
 use Rattle.segment_manager.proofs.{directory.Frame.object-roomy, containers.ToChange.seen-found}
-use Rattle.segment_manager.proofs.{objects.Rewritten.value_start}
-use Rattle.segment_manager.proofs.{objects.Here.standing, containers.ItemSteps.one-kind, containers.Safely.done-so}
-use Rattle.segment_manager.proofs.{containers.Safely.stays, directory.HeapCalls.denotes-live}
+use Rattle.segment_manager.proofs.{objects.Rewritten.value_start, objects.Here.standing, containers.ItemSteps.one-kind}
+use Rattle.segment_manager.proofs.{containers.Safely.done-so, containers.Safely.stays, directory.HeapCalls.denotes-live}
 use Rattle.best_fit.proofs.Laws.{room-less}
 use Rattle.seg_vector.specs.{Elements.ShrinksStorageOk, Elements.RewritesElements, Containers.ReservesStorageOk}
-use Rattle.segment_manager.specs.containers.Stored.{ChangesElements, IsElements, each_of}
 
 -- ---- the words of a container
 

@@ -11,29 +11,28 @@ use common.{IsValueAt, ChangesBytes, Located, IsLocated, head_len, Place, IsSegm
 use common.{value_len, mul-le-mul_left, IsMissing, BackingArray, kind_of_code, leb-true, [], flat_map, has_room}
 use common.{live_of}
 use Rattle.std.proofs.lemmas.List.{nil_from_length, drop-map, length-drop, length-take, take-append-drop}
+use Rattle.segment_manager.proofs.objects.WholeNumbers.{IsOfKind, whole-spelled, whole-values}
+use Rattle.segment_manager.specs.containers.Ranges.{ChangesRange, WritesRange, numbers_if, range_at, range_in, replaced}
+use Rattle.segment_manager.specs.containers.Ranges.{with_range, written, written_if}
+use Rattle.segment_manager.proofs.objects.Stored.{numbers-good, ElementAt, element-found}
+use Rattle.segment_manager.proofs.directory.CommandSteps.{IsMove, by_moves, by_same, moves-same, stays-refl}
 use Rattle.segment_manager.proofs.{directory.HeapCalls.denotes-heap, objects.Standings.standing-room}
-use Rattle.segment_manager.proofs.{objects.WholeNumbers.IsOfKind, objects.WholeNumbers.whole-spelled}
-use Rattle.segment_manager.proofs.{objects.WholeNumbers.whole-values, objects.Locating.said-at}
-use Rattle.segment_manager.proofs.{objects.Locating.same-object, objects.Here.standing, objects.Written.numbers-object}
-use Rattle.segment_manager.proofs.{objects.KindCodes.code-read, objects.KindCodes.numbers-only}
-use Rattle.segment_manager.proofs.{objects.ObjectLists.key-found}
-use Rattle.segment_manager.proofs.{objects.Exchanged.denotes-rewritten, directory.Frame.object-roomy}
-use Rattle.segment_manager.proofs.{objects.Rewritten.value_start, containers.Safely.Performed}
-use Rattle.segment_manager.proofs.{containers.Safely.performed}
+use Rattle.segment_manager.proofs.{objects.Locating.said-at, objects.Locating.same-object, objects.Here.standing}
+use Rattle.segment_manager.proofs.objects.Written.{numbers-object}
+use Rattle.segment_manager.proofs.objects.KindCodes.{code-read, numbers-only}
+use Rattle.segment_manager.proofs.{objects.ObjectLists.key-found, objects.Exchanged.denotes-rewritten}
+use Rattle.segment_manager.proofs.{directory.Frame.object-roomy, objects.Rewritten.value_start}
+use Rattle.segment_manager.proofs.containers.Safely.{Performed, performed}
+use Rattle.segment_manager.proofs.blocks.Blocks.{spelling-length, spelled-length}
 use Rattle.std.proofs.{lemmas.Bool.leb-false, lemmas.Bool.and_parts, lemmas.List.Folds.list_all-append}
 use Rattle.segment_manager.specs.objects.Located.{located, value_offset}
+use Rattle.segment_manager.specs.objects.ElementLists.{numbers_in}
+use Rattle.segment_manager.specs.objects.Standing.{place_at, offset_in}
 use Rattle.std.specs.Prelude.{IfOk, OnOk}
 use Rattle.raw_region.proofs.Bytes.{HasBytesAt-patched}
 use Rattle.best_fit.specs.Heap.{KeepsGaps}
 use Rattle.best_fit.proofs.Laws.{gaps-payload}
 use Rattle.seg_vector.proofs.storage.TypedVectors.{all-both, flat-replaced}
-use Rattle.segment_manager.specs.containers.Ranges.{ChangesRange, WritesRange, numbers_if, range_at, range_in, replaced}
-use Rattle.segment_manager.specs.containers.Ranges.{with_range, written, written_if}
-use Rattle.segment_manager.specs.{objects.ElementLists.numbers_in, objects.Standing.place_at}
-use Rattle.segment_manager.specs.{objects.Standing.offset_in}
-use Rattle.segment_manager.proofs.objects.Stored.{numbers-good, ElementAt, element-found}
-use Rattle.segment_manager.proofs.blocks.Blocks.{spelling-length, spelled-length}
-use Rattle.segment_manager.proofs.directory.CommandSteps.{IsMove, by_moves, by_same, moves-same, stays-refl}
 
 -- ---- a list with others in the places from one on
 

@@ -8,12 +8,10 @@ use common.{has_values, Value, Object, Directory, kind_of, live, object_at, Deno
 use common.{RegrownNeed, Refuse, AnswersWith, IsSegment, TakesStep, TakesStepOfKind, SegmentState, DenotesCurrent}
 use common.{changed, effect, Plan, is_read_only, step_of_kind, step, arith, le-ltb, lt-ltb, resized, with_array}
 use Rattle.segment_manager.proofs.directory.CommandSteps.{IsMove, IsOpenFor, by_no_change, by_no_change_of_kind}
-use Rattle.segment_manager.proofs.directory.CommandSteps.{by_step_of_kind}
-use Rattle.segment_manager.proofs.directory.CommandSteps.{open-writing, step-effect, step_of_kind-found}
-use Rattle.segment_manager.proofs.directory.CommandSteps.{step_of_kind-not_found}
-use Rattle.segment_manager.proofs.{directory.CommandSteps.step_of_kind-other, directory.CommandSteps.moves-same}
-use Rattle.segment_manager.proofs.{directory.HeapCalls.denotes-live}
-use Rattle.segment_manager.proofs.containers.Contained.{contents-changed}
+use Rattle.segment_manager.proofs.directory.CommandSteps.{by_step_of_kind, open-writing, step-effect}
+use Rattle.segment_manager.proofs.directory.CommandSteps.{step_of_kind-found, step_of_kind-not_found}
+use Rattle.segment_manager.proofs.directory.CommandSteps.{step_of_kind-other, moves-same}
+use Rattle.segment_manager.proofs.{directory.HeapCalls.denotes-live, containers.Contained.contents-changed}
 use Rattle.std.proofs.lemmas.Bool.{leb-false}
 
 -- ---- a plan that allocates a block

@@ -1,11 +1,10 @@
 -- The calls on any object with storage: failures, reserve, shrink and clear; and calls that read.
 use Rattle.segment_manager.proofs.Common.{Err, None, Some, false, refl, subst, true, ◌≡◌, Command, is_changing, Key}
-use Rattle.segment_manager.proofs.Common.{Kind, NotFound, WrongKind, Answer, Directory}
-use Rattle.segment_manager.proofs.Common.{Numbers, Object, Pairs, Value, kind_of, object_at, Refuse}
-use Rattle.segment_manager.proofs.Common.{AnswersQueryOfKind, TakesStepOfKind, SegmentState, effect, storage_of}
-use Rattle.segment_manager.proofs.Common.{command_of, has_storage, Change, Clear, Reserve, Shrink}
+use Rattle.segment_manager.proofs.Common.{Kind, NotFound, WrongKind, Answer, Directory, Numbers, Object, Pairs, Value}
+use Rattle.segment_manager.proofs.Common.{kind_of, object_at, Refuse, AnswersQueryOfKind, TakesStepOfKind, SegmentState}
+use Rattle.segment_manager.proofs.Common.{effect, storage_of, command_of, has_storage, Change, Clear, Reserve, Shrink}
 use Rattle.segment_manager.proofs.containers.ContentPlans.{clear-plan, reserve-plan, shrink-plan}
-use Rattle.segment_manager.proofs.{directory.CommandSteps.with-not_found}
+use Rattle.segment_manager.proofs.directory.CommandSteps.{with-not_found}
 
 -- ---- refusals
 

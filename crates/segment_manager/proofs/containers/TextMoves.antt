@@ -9,8 +9,7 @@ use common.{refusal_of, done_answer, step_of_kind, append-nil, Refusal, Command,
 use common.{kind_of, perform, AnswersWith, IsSegment, DenotesCurrent}
 use Rattle.segment_manager.proofs.containers.TextsHeld.{HasBytes, HoldsTexts, IsTextsMove, holds-texts, texts-changed}
 use Rattle.segment_manager.proofs.directory.CommandSteps.{IsMove, IsOpenFor, by_no_change_of_kind, by_step_of_kind}
-use Rattle.segment_manager.proofs.directory.CommandSteps.{open-writing}
-use Rattle.segment_manager.proofs.directory.CommandSteps.{step_of_kind-found, step_of_kind-segment}
+use Rattle.segment_manager.proofs.directory.CommandSteps.{open-writing, step_of_kind-found, step_of_kind-segment}
 use Rattle.segment_manager.proofs.containers.TextLists.{part-all, part-none, part-removed}
 use Rattle.segment_manager.proofs.containers.AnyStorage.{kind-told, of_kind-same}
 use Rattle.segment_manager.proofs.{directory.HeapCalls.denotes-live, objects.Constructed.restored-denotes}

@@ -9,18 +9,17 @@ use common.{ExchangesBlocks, StringsKind, IsTextsContainer, and_from, IsSegment,
 use common.{AreDistinct, OwnedText, are_bytes, IsValueAt, Directory, eqb-true, ltb-true, bytes_of, current, has_backing}
 use common.{place_at, count_of, IsObjectInBlock, Option, is_object, object_at, option_to_list, AllByRecursion}
 use common.{container_place, has_own_block, is_good_value, container_at, is_owned_text}
-use Rattle.segment_manager.proofs.containers.Contained.{good-with, start-place}
 use Rattle.segment_manager.proofs.containers.TextBlocks.{IsPartOther, others-apart, part-exchange}
+use Rattle.segment_manager.proofs.directory.ExtentOrder.{Rising, live-rises, inserted}
+use Rattle.raw_region.proofs.Facts.{AllByRecursion-append, AllByRecursion-behind, AllByRecursion-front, first, no_more}
+use Rattle.segment_manager.proofs.containers.Contained.{good-with, start-place}
 use Rattle.segment_manager.proofs.objects.Rewritten.{with_value, value_start}
 use Rattle.segment_manager.proofs.{directory.Frame.object-roomy, directory.LiveSet.live-split, directory.LiveSet.IsIn}
-use Rattle.segment_manager.proofs.{directory.ExtentOrder.Rising, directory.ExtentOrder.live-rises}
-use Rattle.segment_manager.proofs.{directory.ExtentOrder.inserted, directory.HeapCalls.denotes-live}
-use Rattle.segment_manager.proofs.{directory.HeapCalls.denotes-heap, objects.Regrown.rest}
-use Rattle.segment_manager.proofs.{objects.Regrown.with_extents, objects.Exchanged.denotes-container}
-use Rattle.segment_manager.proofs.{objects.Standings.standing-room, containers.ItemSteps.one-kind}
-use Rattle.segment_manager.proofs.{objects.Here.standing, objects.ObjectLists.key-found}
+use Rattle.segment_manager.proofs.directory.HeapCalls.{denotes-live, denotes-heap}
+use Rattle.segment_manager.proofs.objects.Regrown.{rest, with_extents}
+use Rattle.segment_manager.proofs.{objects.Exchanged.denotes-container, objects.Standings.standing-room}
+use Rattle.segment_manager.proofs.{containers.ItemSteps.one-kind, objects.Here.standing, objects.ObjectLists.key-found}
 use Rattle.segment_manager.proofs.containers.Refilled.{HoldsAt, holds-at}
-use Rattle.raw_region.proofs.Facts.{AllByRecursion-append, AllByRecursion-behind, AllByRecursion-front, first, no_more}
 use Rattle.raw_region.proofs.Facts.{second}
 use Rattle.best_fit.proofs.Laws.{all-found-in}
 use Rattle.std.proofs.lemmas.List.{nil_from_length}

@@ -10,39 +10,36 @@ use common.{List, None, Some, arith, false, refl, subst, take, BackingArray, Pla
 use common.{Answer, Ok, slice_get-get_or, slice_get-map, slice_get_past, value_of_literal, capacity_for_one, LacksSpace}
 use common.{ℕ, IsSomeVector, GrowsVectorOk, container_at, is_good_value, with_capacity, TakesStepOfKind, AnswersSafely}
 use common.{ℤ, list_all, flat_map, size_of, Refusal, NoSpace, Assigns, Element, Refused, Elements, kind_of, perform}
-use common.{grown_backing, current, Denotes, Option, Plan, DenotesCurrent, MatchResult, IfErr, ◌⊎◌, NotFound}
-use common.{Located, Object, sizes_at, sizes_of, is_elementwise}
-use Rattle.segment_manager.proofs.bound.{Changes.Changed, Changes.leaves-bound, Places.container-bound}
+use common.{grown_backing, current, Denotes, Option, Plan, DenotesCurrent, MatchResult, IfErr, ◌⊎◌, NotFound, Located}
+use common.{Object, sizes_at, sizes_of, is_elementwise}
 use Rattle.segment_manager.specs.objects.BoundObjects.{IsBound, container_of, key_of}
-use Rattle.segment_manager.specs.Keeping.{KeepsUnused}
 use Rattle.segment_manager.proofs.containers.RangeCalls.{RangeWritten, range-done, range-elements, range-moves}
 use Rattle.segment_manager.proofs.containers.RangeCalls.{range-short, series-elements, whole-replaced}
 use Rattle.segment_manager.proofs.containers.Extending.{VectorExtended, extended-found, extended-room}
-use Rattle.segment_manager.proofs.{containers.Refilled.then_room, Common.live_of, objects.WholeNumbers.whole-values}
-use Rattle.segment_manager.proofs.{containers.ToChange.seen-found}
-use Rattle.segment_manager.proofs.{directory.CommandSteps.open-writing}
+use Rattle.segment_manager.proofs.objects.WholeNumbers.{whole-values, IsOfKind, whole-insert, whole-reached}
+use Rattle.segment_manager.proofs.objects.WholeNumbers.{whole-remove, whole-set, whole-spelled}
 use Rattle.segment_manager.specs.containers.Ranges.{extended, numbers_if, replaced, written}
-use Rattle.seg_vector.specs.{Vector.capacity_for_more, VectorCalls.Sets}
-use Rattle.seg_vector.specs.VectorCalls.{CountsCapacity, ExtendsBy, SetsAll, ErasesFrom, Gets, InsertsInto, IsVector}
-use Rattle.seg_vector.specs.VectorCalls.{Pops}
-use Rattle.seg_vector.specs.VectorCalls.{Pushes, ReadsVectorLen}
+use Rattle.seg_vector.specs.VectorCalls.{Sets, CountsCapacity, ExtendsBy, SetsAll, ErasesFrom, Gets, InsertsInto}
+use Rattle.seg_vector.specs.VectorCalls.{IsVector, Pops, Pushes, ReadsVectorLen}
 use Rattle.segment_manager.specs.objects.ElementLists.{element_of, numbers_at, whole_of}
-use Rattle.segment_manager.proofs.objects.ElementLists.{numbers-listed}
-use Rattle.std.specs.Option.{ok_or}
-use Rattle.segment_manager.proofs.containers.Safely.{performed, pick-outside, pick-space, answered, done-so}
-use Rattle.segment_manager.proofs.containers.Safely.{kept-gaps, refuses-so, same-live}
-use Rattle.best_fit.specs.Heap.{KeepsGaps}
-use Rattle.seg_vector.proofs.Laws.{same-extents}
-use Rattle.segment_manager.proofs.containers.ContentPlans.{assign-plan, erase-plan, insert-plan, pop-plan}
-use Rattle.segment_manager.proofs.containers.ContentPlans.{push-plan, set-plan}
+use Rattle.segment_manager.proofs.containers.Safely.{performed, pick-outside, pick-space, answered, done-so, kept-gaps}
+use Rattle.segment_manager.proofs.containers.ContentPlans.{assign-plan, erase-plan, insert-plan, pop-plan, push-plan}
 use Rattle.segment_manager.proofs.containers.ItemSteps.{HoldsItems, ListedGrown, ListedNow, Listing, changes-safely}
 use Rattle.segment_manager.proofs.containers.ItemSteps.{found-items, items-denote, grows-safely, items-full}
 use Rattle.segment_manager.proofs.containers.ItemSteps.{items-grown, items-now, items-refused, items-stay, items-steps}
 use Rattle.segment_manager.proofs.containers.ItemSteps.{so-too, some-items, vector-only}
-use Rattle.segment_manager.proofs.objects.WholeNumbers.{IsOfKind, whole-insert, whole-reached, whole-remove, whole-set}
-use Rattle.segment_manager.proofs.objects.WholeNumbers.{whole-spelled}
+use Rattle.segment_manager.proofs.{bound.Changes.Changed, bound.Changes.leaves-bound, bound.Places.container-bound}
+use Rattle.segment_manager.proofs.{containers.Refilled.then_room, Common.live_of, containers.ToChange.seen-found}
+use Rattle.segment_manager.proofs.{directory.CommandSteps.open-writing, objects.ElementLists.numbers-listed}
+use Rattle.segment_manager.proofs.containers.Safely.{refuses-so, same-live}
+use Rattle.segment_manager.proofs.containers.ContentPlans.{set-plan}
 use Rattle.segment_manager.proofs.objects.Stored.{literal-read, literals-read}
 use Rattle.segment_manager.proofs.containers.Contained.{contents-fit}
+use Rattle.segment_manager.specs.Keeping.{KeepsUnused}
+use Rattle.seg_vector.specs.Vector.{capacity_for_more}
+use Rattle.std.specs.Option.{ok_or}
+use Rattle.best_fit.specs.Heap.{KeepsGaps}
+use Rattle.seg_vector.proofs.Laws.{same-extents}
 
 module _ {T : Type 0} {k : ScalarKind} {w : T → ℤ} {size : ℕ} {test : T → Bool} {sp : T → List ℕ}
     (law : IsOfKind k w size test sp) where

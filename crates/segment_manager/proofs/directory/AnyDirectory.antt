@@ -7,11 +7,9 @@ use Rattle.segment_manager.proofs.Common.{gaps, live, Done, step, Mode, Tile, le
 use Rattle.segment_manager.proofs.Common.{EncodesLiveSet, live_of, Denotes, Number, TakesStep, AllByRecursion, AreZero}
 use Rattle.segment_manager.proofs.Common.{is_read_only, IsTileOfIndex, lay_out_one, option_map}
 use Rattle.segment_manager.proofs.directory.CommandSteps.{by_step, open-writing, open-reading, step-reply, IsNext, Says}
-use Rattle.segment_manager.proofs.directory.CommandSteps.{by_replies}
-use Rattle.segment_manager.proofs.{directory.CommandSteps.lands, directory.CommandSteps.answered}
+use Rattle.segment_manager.proofs.directory.CommandSteps.{by_replies, lands, answered}
 use Rattle.segment_manager.proofs.{directory.LiveSet.of_each, directory.HeapCalls.denotes-live}
-use Rattle.segment_manager.proofs.{directory.OneObject.frame-stays}
-use Rattle.segment_manager.proofs.directory.Frame.{any_objects-same}
+use Rattle.segment_manager.proofs.{directory.OneObject.frame-stays, directory.Frame.any_objects-same}
 use Rattle.best_fit.specs.{Extents.Gap, Extents.free_bytes, FreeTree.span}
 use Rattle.segment_manager.specs.{Calls.HasZeroGaps, Layout.size_at}
 

@@ -6,8 +6,7 @@ use common.{no_backing, has_backing, Anonymous, class_code, Directory, put_objec
 use common.{if◌then◌else◌, StringsKind, remove_object, replace_object, with_object, with_changed, without_object, false}
 use common.{filter, handle, BackingArray, Class, Scalar, String, Vector, Value, Bytes, Pairs, Texts, Object, rises}
 use Rattle.segment_manager.proofs.directory.LiveSet.{IsFound, Place, here, behind, found-place, found-nothing}
-use Rattle.segment_manager.proofs.directory.LiveSet.{remove-here}
-use Rattle.segment_manager.proofs.directory.LiveSet.{remove-behind, replace-here, replace-behind}
+use Rattle.segment_manager.proofs.directory.LiveSet.{remove-here, remove-behind, replace-here, replace-behind}
 use Rattle.block_tags.specs.declared.tile.Role.TheVariants.{Index}
 use Rattle.seg_types.specs.declared.kinds.Class.TheVariants.{Named, Unique}
 

@@ -5,9 +5,8 @@ use common.{if◌then◌else◌, cond, IsTrue, nat_lt, find, flat_map, AllByRecu
 use common.{LiveSet, handle, is_proper, ByHandle, Object, Directory, sorted, live, extents_of, table_extents, has_key}
 use common.{put_object, remove_object, replace_object, with_object, with_changed, without_object}
 use Rattle.segment_manager.proofs.directory.ExtentOrder.{Apart, Rising, inserted, inserted-comm, sorted-append}
-use Rattle.segment_manager.proofs.directory.ExtentOrder.{all_of-sorted}
-use Rattle.segment_manager.proofs.directory.ExtentOrder.{live-rises, rising-inserted, apart-inserted, without_all}
-use Rattle.segment_manager.proofs.directory.ExtentOrder.{without-inserted}
+use Rattle.segment_manager.proofs.directory.ExtentOrder.{all_of-sorted, live-rises, rising-inserted, apart-inserted}
+use Rattle.segment_manager.proofs.directory.ExtentOrder.{without_all, without-inserted}
 use Rattle.raw_region.proofs.Facts.{AllByRecursion-front, AllByRecursion-behind}
 
 -- the extents of these objects, and of the tables t, by offset

@@ -7,15 +7,14 @@ use common.{IsDirectory, live, extents_of, value_extents, table_extents, is_obje
 use common.{with_object, with_changed, without_object, named_objects, unique_objects, by_name, by_kind, Denotes}
 use common.{IsObjectAt, IsHeader, handles, SameBytes-part, flat_map, list_all, rises_from}
 use Rattle.segment_manager.proofs.directory.IndexedParts.{IsLike, replace-rises, anonymous-named, anonymous-unique}
-use Rattle.segment_manager.proofs.directory.IndexedParts.{ordered-with}
-use Rattle.segment_manager.proofs.directory.IndexedParts.{ordered-without, ordered-changed, by_name-face, by_kind-face}
+use Rattle.segment_manager.proofs.directory.IndexedParts.{ordered-with, ordered-without, ordered-changed, by_name-face}
 use Rattle.segment_manager.proofs.objects.ObjectLists.{all-put, all-remove, all-replace, list_all-put, list_all-remove}
 use Rattle.segment_manager.proofs.objects.ObjectLists.{list_all-replace, stands_apart, put-rises, remove-rises}
 use Rattle.segment_manager.proofs.directory.ExtentOrder.{Differs, inserted, live-rises, rising-insert, all_of-inserted}
 use Rattle.segment_manager.proofs.directory.LiveSet.{removing, of_each, IsFound, live-put, adding, live-without, IsIn}
 use Rattle.segment_manager.proofs.directory.Frame.{header-same, any_objects-same, any_index-same}
-use Rattle.segment_manager.proofs.indexes.Indexes.{directory-less}
 use Rattle.raw_region.proofs.Facts.{first, second, no_more}
+use Rattle.segment_manager.proofs.{directory.IndexedParts.by_kind-face, indexes.Indexes.directory-less}
 use Rattle.block_tags.specs.declared.tile.Role.TheVariants.{Index}
 use Rattle.seg_types.specs.declared.kinds.Class.TheVariants.{Named, Unique}
 

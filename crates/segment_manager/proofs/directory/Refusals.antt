@@ -10,13 +10,12 @@ use common.{Class, NotFound, changed, storage_of, with_table, with_items, shrunk
 use common.{pair_values, remove_pair, ◌++◌, ◌-◌, U8, Element, capacity_for_one, element_at, map, slice_set, insert}
 use common.{remove, nat_abs, Value, Bytes, Pairs, Texts, Refuse, Reply, found, map_of, effect, int_lt, handle, List}
 use common.{Some, None, ◌==◌, ◌&&◌, take, Kind, Mode, live, bare, Need, Plan, with, step, plan, Done, Boolean}
-use common.{replicate}
-use common.{WrongKind, OutOfRange, Anonymous, same_kind, with_spare_entry, with_entry, with_value, refusal_of, ReadOnly}
-use common.{ScalarKind, Vector, ByHandle, OwnedText, Elements, Directory, object_at, class_of, found_at, cons_values}
-use common.{count_of}
+use common.{replicate, WrongKind, OutOfRange, Anonymous, same_kind, with_spare_entry, with_entry, with_value}
+use common.{refusal_of, ReadOnly, ScalarKind, Vector, ByHandle, OwnedText, Elements, Directory, object_at, class_of}
+use common.{found_at, cons_values, count_of}
+use Rattle.segment_manager.specs.Step.{assign, push, pop, insert_at, erase, put, text_of}
 use Rattle.seg_types.specs.declared.kinds.Class.TheVariants.{Named, Unique}
 use Rattle.segment_manager.specs.{Answers.Absent, Answers.Found, objects.Located.located, containers.Ranges.extend}
-use Rattle.segment_manager.specs.Step.{assign, push, pop, insert_at, erase, put, text_of}
 use Rattle.std.proofs.lemmas.List.{length-set}
 use Rattle.seg_vector.specs.Vector.{capacity_for_more}
 

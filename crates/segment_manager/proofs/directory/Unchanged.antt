@@ -5,8 +5,7 @@ use common.{SegmentState, refl, Option, Result, Extent, resized, Refusal, NoSpac
 use common.{TakesStep, StepsWithoutAnswer, ap, false≢true, LiveSet, is_changing, Directory, refusal_of, step_of_kind}
 use common.{DenotesCurrent, answer_of, refusal_in}
 use Rattle.segment_manager.proofs.directory.Refusals.{Leaves, by_change, by_other, by_refusal, by_request, by_same}
-use Rattle.segment_manager.proofs.directory.Refusals.{plan-leaves}
-use Rattle.segment_manager.proofs.directory.Refusals.{plan_of_kind-leaves, step-refused}
+use Rattle.segment_manager.proofs.directory.Refusals.{plan-leaves, plan_of_kind-leaves, step-refused}
 
 asked-reads : {d : Directory} (o : Option Extent) (after : Extent → Answer × Directory) → ((x : Extent)
     → (after x).1 ≡ d) → (elim o as (λ _. Answer × Directory) [ None ↦ (Refused NoSpace, d) | Some x ↦ after x ]).1 ≡ d

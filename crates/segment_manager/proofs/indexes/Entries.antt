@@ -1,12 +1,11 @@
 -- Each index follows its objects.
 use Rattle.segment_manager.proofs.Common.{◌∙◌, sym, ℕ, handle, ByHandle, Object, Directory, IsDirectory, object_at}
 use Rattle.segment_manager.proofs.directory.IndexedParts.{IsLike, ordered-with, ordered-without, ordered-changed}
-use Rattle.segment_manager.proofs.directory.IndexedParts.{by_name-face}
 use Rattle.segment_manager.proofs.indexes.Indexes.{named-more, one-less, unique-more, one-removed, by_name-strict}
-use Rattle.segment_manager.proofs.indexes.Indexes.{by_kind-strict}
-use Rattle.segment_manager.proofs.{Common.by_name, Common.by_kind, directory.IndexedParts.by_kind-face}
-use Rattle.segment_manager.proofs.{directory.LiveSet.IsFound, directory.LiveSet.IsIn}
 use Rattle.segment_manager.specs.indexes.Entries.{IndexesFollowObjects, KeepsEntries, RemovesOneEntry}
+use Rattle.segment_manager.proofs.Common.{by_name, by_kind}
+use Rattle.segment_manager.proofs.directory.IndexedParts.{by_name-face, by_kind-face}
+use Rattle.segment_manager.proofs.{indexes.Indexes.by_kind-strict, directory.LiveSet.IsFound, directory.LiveSet.IsIn}
 use Rattle.seg_types.specs.declared.kinds.Class.TheVariants.{Named, Unique}
 
 removes-entry : {format : ℕ} {d : Directory} {o : Object} → IsDirectory format d → IsIn d o → RemovesOneEntry d o

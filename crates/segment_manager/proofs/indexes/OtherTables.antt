@@ -6,25 +6,24 @@ use common.{objects_of, refl, Option, IsTrue, Memory, Extent, LiveSet, handle, E
 use common.{resized, link_at, handles, sym, ◌∙◌, ◌+◌, ◌≤◌, Some, None, List, WindowState, live, ◌*◌, Bool, true, ◌&&◌}
 use common.{◌==◌, [], ◌||◌, place, ◌∷◌, ap, subst, arith, added, KeepsBlocks, BackingArray, Index, Object, false}
 use common.{length, nat_le, nat_lt, eq-eqb, serves, ℕ, flat_map, bytes_of, no_backing, without_index_block, IsIndexOf}
-use common.{Directory}
-use common.{is_object, shrunk_backing, KeepsOutsideIndex, IsIndexAt, AllByRecursion, class_of_index, with_table_of}
-use common.{if◌then◌else◌, placed_is_proper, lay_out_one, without_object, current, index_at, table_of, list_all}
-use common.{eqb-true, released, has_backing, ShrinksIndex, IsHeader, is_index, order_of, SameBytes-trans, blocks-trans}
-use common.{beside_table, without_link, extents_of, IsObjectAt, remove_object, table_extents}
+use common.{Directory, is_object, shrunk_backing, KeepsOutsideIndex, IsIndexAt, AllByRecursion, class_of_index}
+use common.{with_table_of, if◌then◌else◌, placed_is_proper, lay_out_one, without_object, current, index_at, table_of}
+use common.{list_all, eqb-true, released, has_backing, ShrinksIndex, IsHeader, is_index, order_of, SameBytes-trans}
+use common.{blocks-trans, beside_table, without_link, extents_of, IsObjectAt, remove_object, table_extents}
 use Rattle.segment_manager.proofs.indexes.Entered.{HasOne, has_both, of_rest, other, other-stays, other-words}
-use Rattle.segment_manager.proofs.{indexes.Entered.other_class, indexes.HeldIndexes.denotes-index}
-use Rattle.segment_manager.proofs.{indexes.Bridge.no-entry-removed, directory.ExtentOrder.live-rises}
-use Rattle.segment_manager.proofs.{directory.HeapCalls.denotes-live}
 use Rattle.segment_manager.proofs.indexes.Tables.{index-left_out, left_out, live-moved_index, live-no_index}
-use Rattle.segment_manager.proofs.indexes.Tables.{live-resized_index, live-same_index}
 use Rattle.segment_manager.proofs.indexes.Tabled.{same-size, same-objects, has-one, place-high}
 use Rattle.segment_manager.proofs.directory.LiveSet.{IsIn, OfEach, live-without, of_each, removing}
 use Rattle.segment_manager.proofs.directory.OneObject.{KeepsFront, denotes-taken, handles-length}
-use Rattle.segment_manager.proofs.indexes.Indexes.{index-from, index-parts}
 use Rattle.segment_manager.proofs.directory.Frame.{header-same, any_index-same, any_objects-same}
 use Rattle.raw_region.proofs.Facts.{AllByRecursion-behind, AllByRecursion-front, AllByRecursion-append}
-use Rattle.seg_index.proofs.Laws.{place_behind}
 use Rattle.best_fit.specs.Fit.{gap_after, room, shorter}
+use Rattle.segment_manager.proofs.{indexes.Entered.other_class, indexes.HeldIndexes.denotes-index}
+use Rattle.segment_manager.proofs.{indexes.Bridge.no-entry-removed, directory.ExtentOrder.live-rises}
+use Rattle.segment_manager.proofs.directory.HeapCalls.{denotes-live}
+use Rattle.segment_manager.proofs.indexes.Tables.{live-resized_index, live-same_index}
+use Rattle.segment_manager.proofs.indexes.Indexes.{index-from, index-parts}
+use Rattle.seg_index.proofs.Laws.{place_behind}
 use Rattle.seg_index.specs.Capacities.{with_cut}
 
 -- ---- an index has another table

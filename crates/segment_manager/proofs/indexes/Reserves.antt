@@ -10,9 +10,8 @@ use common.{SegmentState, effect, ℕ, length, current, NoSpace, KeepsRoomyIndex
 use common.{Refused, Denotes, table_of, Request}
 use Rattle.segment_manager.proofs.indexes.OtherTables.{places_in, reserved-tabled, shrunk-tabled, tabled-denotes}
 use Rattle.segment_manager.proofs.directory.CommandSteps.{by_no_change, by_step, lands, open-writing, perform-new}
-use Rattle.segment_manager.proofs.directory.CommandSteps.{perform-no_space}
-use Rattle.segment_manager.proofs.{directory.CommandSteps.step-plan, directory.CommandSteps.step-reply}
-use Rattle.segment_manager.proofs.{directory.HeapCalls.denotes-live}
+use Rattle.segment_manager.proofs.directory.CommandSteps.{perform-no_space, step-plan, step-reply}
+use Rattle.segment_manager.proofs.directory.HeapCalls.{denotes-live}
 use Rattle.segment_manager.proofs.containers.Safely.{Stepped, stepped}
 use Rattle.segment_manager.proofs.indexes.HeldIndexes.{denotes-index}
 use Rattle.segment_manager.specs.Step.{shrunk_indexes}

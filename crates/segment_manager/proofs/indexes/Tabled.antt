@@ -6,17 +6,16 @@ use common.{AllByRecursion, WindowState, SameBytes, SameSurroundings, bytes_of, 
 use common.{SameBytes-trans, IndexRole, Extent, LiveSet, handle, is_proper, added, others, AllocatesOk, KeepsBlocks}
 use common.{EncodesLiveSet, SameBlock, extent_at, live_of, BackingArray, no_backing, allocated-live, blocks-trans}
 use common.{Index, AddKeeps, AddsEntry, beside_table, without_index_block, without_link, IsIndexOf, index_at}
-use common.{grown_capacity}
-use common.{Object, Directory, extents_of, is_object, live, object_at, with_object, Denotes, IsObjectAt, class_of_index}
-use common.{entries_of, table_of, with_table_of}
+use common.{grown_capacity, Object, Directory, extents_of, is_object, live, object_at, with_object, Denotes, IsObjectAt}
+use common.{class_of_index, entries_of, table_of, with_table_of}
 use Rattle.segment_manager.proofs.objects.Taking.{IsMade, allocated-found, taken-found, taken-live}
 use Rattle.segment_manager.proofs.indexes.Entered.{HasOne, OfRest, entered-other, entered-own, has_both, key_in, of_all}
 use Rattle.segment_manager.proofs.indexes.Entered.{of_rest, other, other-stays, other-words}
 use Rattle.segment_manager.proofs.indexes.Tables.{index-left_out, last-table, left_out, live-moved_index, same-table}
-use Rattle.segment_manager.proofs.{indexes.Tables.table-of, directory.LiveSet.adding, directory.HeapCalls.denotes-live}
-use Rattle.segment_manager.proofs.{directory.Frame.any_object-same}
-use Rattle.segment_manager.proofs.directory.OneObject.{KeepsFront, denotes-put}
 use Rattle.segment_manager.proofs.directory.ExtentOrder.{inserted, live-rises, all_of-inserted}
+use Rattle.segment_manager.proofs.{indexes.Tables.table-of, directory.LiveSet.adding, directory.HeapCalls.denotes-live}
+use Rattle.segment_manager.proofs.directory.Frame.{any_object-same}
+use Rattle.segment_manager.proofs.directory.OneObject.{KeepsFront, denotes-put}
 use Rattle.seg_index.proofs.Laws.{place_behind}
 
 -- ---- the bytes with the new entry

@@ -6,9 +6,8 @@ use Rattle.segment_manager.proofs.Common.{AllByRecursion, Extent, LiveSet, handl
 use Rattle.segment_manager.proofs.Common.{resized, BackingArray, no_backing, Index, without_link, Directory, sorted}
 use Rattle.segment_manager.proofs.Common.{live, extents_of, table_extents, table_of, with_table_of}
 use Rattle.segment_manager.proofs.directory.ExtentOrder.{Differs, Rising, inserted, insert-inserted, sorted-append}
-use Rattle.segment_manager.proofs.directory.ExtentOrder.{all_of-sorted}
-use Rattle.segment_manager.proofs.directory.ExtentOrder.{live-rises, rising-insert, rising-inserted, apart-inserted}
-use Rattle.segment_manager.proofs.directory.ExtentOrder.{others-insert}
+use Rattle.segment_manager.proofs.directory.ExtentOrder.{all_of-sorted, live-rises, rising-insert, rising-inserted}
+use Rattle.segment_manager.proofs.directory.ExtentOrder.{apart-inserted, others-insert}
 use Rattle.segment_manager.proofs.{directory.LiveSet.adding, objects.Regrown.differs-flip}
 use Rattle.raw_region.proofs.Facts.{AllByRecursion-front, AllByRecursion-behind}
 use Rattle.std.proofs.lemmas.List.{append-nil}

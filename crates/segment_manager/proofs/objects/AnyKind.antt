@@ -1,18 +1,16 @@
 -- Calls on elements of the object's own kind: the step of the kind is the command's own.
 use Rattle.segment_manager.proofs.Common as common
 use Rattle.seg_types.specs.Commands as asked
-use common.{◌≡◌, refl, sym, ap, ◌∙◌, ℕ, ℤ, pos, true, false, Option, Some, None, Result, Ok, Err, List, map}
-use common.{slice_set, same_Some, Kind, StringsKind, ScalarKind, U8, Refusal}
-use common.{NotFound, WrongKind, is_value, Key, Command, Literal, literal_of, value_of_literal, Mode}
-use common.{Answer, Done, Refused, elements_at, elements_of, kind_at, Value, Numbers, Elements, Bytes, Pairs}
-use common.{Texts, Object, Directory, kind_of, live, object_at, Plan, Refuse, Reply, perform, with}
-use common.{AnswersWith, AnswersQuery, TakesStep, SegmentState, DenotesCurrent, changed, effect}
+use common.{◌≡◌, refl, sym, ap, ◌∙◌, ℕ, ℤ, pos, true, false, Option, Some, None, Result, Ok, Err, List, map, slice_set}
+use common.{same_Some, Kind, StringsKind, ScalarKind, U8, Refusal, NotFound, WrongKind, is_value, Key, Command, Literal}
+use common.{literal_of, value_of_literal, Mode, Answer, Done, Refused, elements_at, elements_of, kind_at, Value}
+use common.{Numbers, Elements, Bytes, Pairs, Texts, Object, Directory, kind_of, live, object_at, Plan, Refuse, Reply}
+use common.{perform, with, AnswersWith, AnswersQuery, TakesStep, SegmentState, DenotesCurrent, changed, effect}
 use common.{element_at, get, is_read_only, set, step, with_items}
-use Rattle.segment_manager.specs.{Calls.scalar_reply}
-use Rattle.segment_manager.proofs.{objects.Stored.literal-read}
+use Rattle.segment_manager.proofs.directory.CommandSteps.{open-reading, step-refuse, with-found, with-not_found}
+use Rattle.segment_manager.specs.Calls.{scalar_reply}
+use Rattle.segment_manager.proofs.objects.Stored.{literal-read}
 use Rattle.segment_manager.proofs.containers.Refilled.{refused-steps, same_plan-steps}
-use Rattle.segment_manager.proofs.directory.CommandSteps.{open-reading, step-refuse, with-found}
-use Rattle.segment_manager.proofs.directory.CommandSteps.{with-not_found}
 use Rattle.segment_manager.proofs.containers.AnyStorage.{kind-told}
 
 -- ---- the elements of an object
@@ -81,14 +79,6 @@ pub scalars-replies : (s : SegmentState) (key : Key) (i : ℕ) (answer : Answer)
     → AnswersWith s (λ d. scalar_reply s.mode d key (asked.Get key i)) answer → AnswersQuery s (asked.Get key i) answer
 scalars-replies s key i answer n r = record {
   answers = λ d l. r.answers d l ∙ machine-if s.mode d key i (elements_at d key) (n d l) refl;
-}
-
--- and if they are scalars
-pub any-replies : (s : SegmentState) (key : Key) (k : ScalarKind) (c : Command) (answer : Answer)
-    → AnswersWith s (λ d. elements_at d key) (Ok k) → AnswersWith s (λ d. scalar_reply s.mode d key c) answer
-    → AnswersQuery s c answer
-any-replies s key k c answer a r = record {
-  answers = λ d l. r.answers d l ∙ ap (reply_of s.mode d c) (sym (a.answers d l));
 }
 
 -- ---- writing: the literal

@@ -13,13 +13,12 @@ use common.{entry_count, extents_of, object_len, with_object, entries_of, Reques
 use Rattle.segment_manager.proofs.objects.Requests.{entry-grows, entry-refused, entry-room}
 use Rattle.segment_manager.proofs.indexes.Tabled.{IsEntered, entered-denotes, entered-none, entered-some, grown_into}
 use Rattle.segment_manager.proofs.objects.NewKeys.{key-class, key-has, key-name, key-own, key-seeks, object_of}
-use Rattle.segment_manager.proofs.{indexes.Bridge.entry-added, indexes.Bridge.lookup-absent}
-use Rattle.segment_manager.proofs.{directory.HeapCalls.denotes-live}
-use Rattle.segment_manager.proofs.{directory.AnyDirectory.denotes-kept, directory.CommandSteps.perform-new}
-use Rattle.segment_manager.proofs.{directory.CommandSteps.perform-no_space}
-use Rattle.segment_manager.proofs.{indexes.Tables.same-table, indexes.HeldIndexes.denotes-index}
-use Rattle.segment_manager.proofs.{directory.OneObject.handles-length}
 use Rattle.segment_manager.proofs.objects.Taking.{IsMade, taken-index, growth-index}
+use Rattle.segment_manager.proofs.indexes.Bridge.{entry-added, lookup-absent}
+use Rattle.segment_manager.proofs.{directory.HeapCalls.denotes-live, directory.AnyDirectory.denotes-kept}
+use Rattle.segment_manager.proofs.directory.CommandSteps.{perform-new, perform-no_space}
+use Rattle.segment_manager.proofs.{indexes.Tables.same-table, indexes.HeldIndexes.denotes-index}
+use Rattle.segment_manager.proofs.directory.OneObject.{handles-length}
 use Rattle.best_fit.proofs.Laws.{AllByRecursion-insert}
 use Rattle.seg_index.specs.{declared.keys.Entry.Entry, Growth.grown_live}
 use Rattle.segment_manager.specs.objects.NewObjects.{FindsNone}

@@ -14,18 +14,16 @@ use common.{class_of_index, object_at, IsSegment, DenotesCurrent, slice_get, sam
 use Rattle.segment_manager.proofs.indexes.Bridge.{lookup-absent, IsEntryFor, entry-removed, in-handles, lookup-found}
 use Rattle.segment_manager.proofs.containers.Emptied.{changed-entries, changed-in, changed-others, emptied-is}
 use Rattle.segment_manager.proofs.directory.CommandSteps.{by_no_change, by_step, lands, open-writing, step-refuse}
-use Rattle.segment_manager.proofs.directory.CommandSteps.{step-reply}
-use Rattle.segment_manager.proofs.{directory.CommandSteps.with-found, directory.CommandSteps.with-not_found}
-use Rattle.segment_manager.proofs.{indexes.HeldIndexes.denotes-index, directory.LiveSet.IsIn}
-use Rattle.segment_manager.proofs.{objects.Ranks.all-ordered, objects.Rewritten.with_value}
+use Rattle.segment_manager.proofs.directory.CommandSteps.{step-reply, with-found, with-not_found}
 use Rattle.segment_manager.proofs.directory.HeapCalls.{denotes-live, denotes-released, object-live}
 use Rattle.segment_manager.proofs.indexes.EntryPlaces.{all-at, at-handle, of-class}
 use Rattle.segment_manager.proofs.indexes.OtherTables.{IsGone, IsLeft, removed-denotes}
-use Rattle.segment_manager.proofs.containers.Safely.{Stepped, stepped}
+use Rattle.segment_manager.specs.objects.Destroyed.{HoldsEntry, RemovesAnonymous, RemovesEntry}
+use Rattle.segment_manager.proofs.{indexes.HeldIndexes.denotes-index, directory.LiveSet.IsIn, objects.Ranks.all-ordered}
+use Rattle.segment_manager.proofs.{objects.Rewritten.with_value, containers.Safely.Stepped, containers.Safely.stepped}
 use Rattle.segment_manager.proofs.objects.ObjectLists.{found-handle, key-found}
 use Rattle.seg_index.specs.{declared.keys.Entry.Entry, declared.keys.Lookup.Lookup}
 use Rattle.segment_manager.specs.indexes.Listed.{IsEntryAt}
-use Rattle.segment_manager.specs.objects.Destroyed.{HoldsEntry, RemovesAnonymous, RemovesEntry}
 
 -- ---- an object with an entry
 

@@ -1,20 +1,18 @@
 -- The elements of a key's object, one after another: the result of reading one, and their number.
 use Rattle.segment_manager.proofs.Common as common
-use common.{code_of, eq-eqb}
-use common.{◌≡◌, refl, sym, ap, ◌∙◌, ℕ, zero, suc, ℤ, Bool, true, false, Option, Some, None, Result, Ok, Err, List, []}
-use common.{◌∷◌, length, map, if◌then◌else◌, option_map, slice_get, Kind, ScalarOf, StringsKind, ScalarKind, Refusal}
-use common.{NotFound, OutOfRange, WrongKind, same_kind, Key, OwnedText, Mode, Answer, Element, Refused, TextElement}
-use common.{sizes_of, sizes_of_kind, Value, Object, Directory, kind_of, live, object_at, first_size}
-use common.{length_at_kind, number_or_none, Reply, perform, with, answer_of, get, step_of_kind}
+use common.{code_of, eq-eqb, ◌≡◌, refl, sym, ap, ◌∙◌, ℕ, zero, suc, ℤ, Bool, true, false, Option, Some, None, Result}
+use common.{Ok, Err, List, [], ◌∷◌, map, if◌then◌else◌, option_map, slice_get, Kind, ScalarOf, StringsKind}
+use common.{ScalarKind, Refusal, NotFound, OutOfRange, WrongKind, same_kind, Key, OwnedText, Mode, Answer, Element}
+use common.{Refused, TextElement, Value, Object, Directory, kind_of, live, object_at}
+use common.{Reply, perform, with, answer_of, get, step_of_kind}
 use Rattle.segment_manager.proofs.directory.CommandSteps.{open-reading, step_of_kind-found, step_of_kind-not_found}
-use Rattle.segment_manager.proofs.directory.CommandSteps.{step_of_kind-other}
-use Rattle.segment_manager.proofs.{directory.CommandSteps.with-found, containers.ItemSteps.vector-only}
-use Rattle.segment_manager.proofs.{containers.ContentPlans.of_slice}
-use Rattle.segment_manager.proofs.{objects.KindCodes.numbers-only, containers.TextsHeld.texts-only}
-use Rattle.segment_manager.proofs.{containers.TextPlans.text_in}
-use Rattle.seg_types.specs.declared.kinds.Kind.TheVariants.{Vector as VectorOf}
 use Rattle.segment_manager.specs.objects.ElementLists.{list_at, numbers_at, numbers_in, texts_at, texts_in}
 use Rattle.seg_types.specs.Commands as asked
+use Rattle.segment_manager.proofs.directory.CommandSteps.{step_of_kind-other, with-found}
+use Rattle.segment_manager.proofs.{containers.ItemSteps.vector-only, containers.ContentPlans.of_slice}
+use Rattle.segment_manager.proofs.{objects.KindCodes.numbers-only, containers.TextsHeld.texts-only}
+use Rattle.segment_manager.proofs.containers.TextPlans.{text_in}
+use Rattle.seg_types.specs.declared.kinds.Kind.TheVariants.{Vector as VectorOf}
 
 -- the element that was read, if it was
 abbrev pub got : {A : Type 0} → Result A Refusal → Option A
@@ -130,53 +128,3 @@ pub text-read : (mode : Mode) (d : Directory) (key : Key) (i : ℕ) (r : Result 
     r ≡ (step_of_kind mode d key StringsKind (asked.Get key i)).0 → got r ≡ slice_get (texts_at d key) i
 text-read mode d key i r f = item-at TextElement (λ a b e. cc) (λ a why e. absurd (cc)) texts_in mode d key StringsKind
     i (texts-gets d i) r (object_at d key) refl f
-
--- ---- their number
-
--- a function of a key's object of a kind
-abbrev of_kind_at : {A : Type 0} → (Value → Result A Refusal) → Directory → Key → Kind → Result A Refusal
-of_kind_at say d key kind =
-    elim (object_at d key) [
-      | None ↦ Err NotFound
-      | Some o ↦ if same_kind kind (kind_of o.value) then say o.value else Err WrongKind
-    ]
-
-module _ {A : Type 0} (items : Value → List A) (say : Value → Result ℕ Refusal) (d : Directory) (key : Key)
-    (kind : Kind) (only : (v : Value) → same_kind kind (kind_of v) ≡ true → say v ≡ Ok (length (items v))) where
-  many-if : (o : Object) (b : Bool) → same_kind kind (kind_of o.value) ≡ b
-      → number_or_none (if b then say o.value else Err WrongKind) ≡ length (if b then items o.value else [])
-  many-if o false g = refl
-  many-if o true g = ap number_or_none (only o.value g)
-
-  many-in : (p : Option Object) → number_or_none (elim p as (λ _. Result ℕ Refusal) [
-    | None ↦ Err NotFound
-    | Some o ↦ if same_kind kind (kind_of o.value) then say o.value else Err WrongKind
-  ]) ≡ length
-      (elim p as (λ _. List A) [ None ↦ [] | Some o ↦ if same_kind kind (kind_of o.value) then items o.value else [] ])
-  many-in None = refl
-  many-in (Some o) = many-if o (same_kind kind (kind_of o.value)) refl
-
-  many-at : number_or_none (of_kind_at say d key kind) ≡ length (list_at items d key kind)
-  many-at = many-in (object_at d key)
-
--- the first of the sizes of a container
-sizes-first : (b : Bool) (v : Value)
-    → first_size (if b then sizes_of v else Err WrongKind) ≡ (if b then first_size (sizes_of v) else Err WrongKind)
-sizes-first true v = refl
-sizes-first false v = refl
-
--- the length of a container as a function of its value
-pub length-first : (kind : Kind) (p : Option Object) → first_size (elim p as (λ _. Result (ℕ
-    × ℕ) Refusal) [ None ↦ Err NotFound | Some o ↦ sizes_of_kind o kind ]) ≡ elim p as (λ _. Result ℕ Refusal) [
-      | None ↦ Err NotFound
-      | Some o ↦ if same_kind kind (kind_of o.value) then first_size (sizes_of o.value) else Err WrongKind
-    ]
-length-first kind None = refl
-length-first kind (Some o) = sizes-first (same_kind kind (kind_of o.value)) o.value
-
--- the length of a container of a kind is the number of its listed elements
-pub listed-length : {A : Type 0} (items : Value → List A) (d : Directory) (key : Key) (kind : Kind)
-    → ((v : Value) → same_kind kind (kind_of v) ≡ true → first_size (sizes_of v) ≡ Ok (length (items v)))
-    → (r : Result ℕ Refusal) → r ≡ length_at_kind d key kind → number_or_none r ≡ length (list_at items d key kind)
-listed-length items d key kind only r e = ap number_or_none (e ∙ length-first kind (object_at d key))
-    ∙ many-at items (λ v. first_size (sizes_of v)) d key kind only

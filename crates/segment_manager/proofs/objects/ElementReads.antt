@@ -2,26 +2,23 @@
 use Rattle.segment_manager.proofs.Common as common
 use Rattle.seg_types.specs.Commands as asked
 use common.{◌≡◌, refl, sym, ap, subst, ◌∙◌, ℕ, ◌+◌, ◌*◌, ◌<◌, ◌≤◌, ℤ, pos, true, Option, Some, None, Result, Ok, Err}
-use common.{List}
-use common.{[], ◌∷◌, length, length-map, map, arith, IsTrue, slice_get, slice_get-map, slice_get_past, list_all, nat_lt}
-use common.{flat_map, option_map, ltb-true, Memory, HasBytesAt, read, bytes_of, current, handle, padded, head_len, Key}
-use common.{ScalarKind, U8, size_of, is_value, ScalarValue, Refusal, NotFound}
-use common.{OutOfRange, WrongKind, Answer, Element, Refused, elements_of, Value, Numbers, Elements, Bytes, Pairs, Texts}
-use common.{Object, Directory, kind_of, live, object_at, is_good_value, Plan, Reply, perform, with, get, step, Mode}
-use common.{AnswersWith, SegmentState, DenotesCurrent, Command}
+use common.{List, [], ◌∷◌, length, length-map, map, arith, IsTrue, slice_get, slice_get-map, slice_get_past, list_all}
+use common.{nat_lt, flat_map, option_map, ltb-true, Memory, HasBytesAt, read, bytes_of, current, handle, padded}
+use common.{head_len, Key, ScalarKind, U8, size_of, is_value, ScalarValue, Refusal, NotFound, OutOfRange, WrongKind}
+use common.{Answer, Element, Refused, elements_of, Value, Numbers, Elements, Bytes, Pairs, Texts, Object, Directory}
+use common.{kind_of, live, object_at, is_good_value, Plan, Reply, perform, with, get, step, Mode, AnswersWith}
+use common.{SegmentState, DenotesCurrent, Command}
+use Rattle.segment_manager.specs.containers.ElementRuns.{IsRunOf, run_at, run_in, run_of, spelled_in, storage_offset}
+use Rattle.segment_manager.proofs.containers.ElementRuns.{HasRun, IsElementAt, element-in, has-if}
 use Rattle.std.specs.Option.{ok_or}
 use Rattle.byteorder.specs.Endian.{little_number}
 use Rattle.raw_region.proofs.Facts.{second}
-use Rattle.seg_types.specs.Kinds.{is_spelling, value_of}
-use Rattle.seg_types.specs.Values.{SpelledBy}
+use Rattle.seg_types.specs.{Kinds.is_spelling, Kinds.value_of, Values.SpelledBy}
 use Rattle.seg_types.proofs.Laws.{all_spell_one}
 use Rattle.seg_vector.proofs.storage.TypedVectors.{all-at, has-element}
-use Rattle.segment_manager.specs.declared.containers.element_runs.ElementRun.{ElementRun}
-use Rattle.segment_manager.specs.containers.ElementRuns.{IsRunOf, run_at, run_in, run_of, spelled_in, storage_offset}
-use Rattle.segment_manager.specs.{Calls.scalar_reply, State.scalar_answer}
-use Rattle.segment_manager.proofs.containers.Changeable.{answered-reads}
-use Rattle.segment_manager.proofs.containers.ElementRuns.{HasRun, IsElementAt, element-in, has-if}
-use Rattle.segment_manager.proofs.containers.TextAnswers.{byte-value}
+use Rattle.segment_manager.specs.{declared.containers.element_runs.ElementRun.ElementRun, Calls.scalar_reply}
+use Rattle.segment_manager.specs.State.{scalar_answer}
+use Rattle.segment_manager.proofs.{containers.Changeable.answered-reads, containers.TextAnswers.byte-value}
 use Rattle.segment_manager.proofs.{directory.CommandSteps.with-found, directory.Frame.object-roomy}
 use Rattle.segment_manager.proofs.{objects.Here.standing, objects.Slices.HasBytesAt-element}
 

@@ -10,14 +10,11 @@ use Rattle.segment_manager.proofs.directory.LiveSet.{adding, IsFound, IsIn, live
 use Rattle.segment_manager.proofs.objects.Regrown.{InPlace, differs-flip, rest, with_extents}
 use Rattle.segment_manager.proofs.objects.Rewritten.{object-held, value_start, with_value}
 use Rattle.segment_manager.proofs.directory.ExtentOrder.{Rising, inserted, insert-inserted, all_of-inserted, live-rises}
-use Rattle.segment_manager.proofs.directory.ExtentOrder.{rising-insert}
-use Rattle.segment_manager.proofs.{directory.IndexedParts.IsLike, directory.Frame.object-roomy}
-use Rattle.segment_manager.proofs.{directory.OneObject.denotes-replaced}
-use Rattle.segment_manager.proofs.{containers.MapBlocks.blocks-in_use, directory.HeapCalls.denotes-heap}
-use Rattle.segment_manager.proofs.{directory.HeapCalls.denotes-live}
-use Rattle.segment_manager.proofs.{directory.HeapCalls.object-at, directory.ExtentOrder.apart-inserted}
-use Rattle.segment_manager.proofs.{directory.ExtentOrder.without_all, directory.ExtentOrder.without-inserted}
+use Rattle.segment_manager.proofs.directory.ExtentOrder.{rising-insert, apart-inserted, without_all, without-inserted}
+use Rattle.segment_manager.proofs.directory.HeapCalls.{denotes-heap, denotes-live, object-at}
 use Rattle.best_fit.proofs.Laws.{changed-keeps_block, found-room, spread-refl, written-but, LiesBeside, above, below}
+use Rattle.segment_manager.proofs.{directory.IndexedParts.IsLike, directory.Frame.object-roomy}
+use Rattle.segment_manager.proofs.{directory.OneObject.denotes-replaced, containers.MapBlocks.blocks-in_use}
 use Rattle.best_fit.specs.Fit.{insert}
 
 -- ---- extents among others

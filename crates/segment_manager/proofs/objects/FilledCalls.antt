@@ -6,17 +6,16 @@ use common.{false≢true, ◌≡◌, refl, sym, ap, subst, ◌∙◌, ℕ, true,
 use common.{IfErr, none-some, WindowState, Kind, Refusal, Exists, NoSpace, Command, Content, Index, PendingEntry, Mode}
 use common.{Answer, Made, Refused, is_untouched, BeginsObject, IsAbsentAt, BeginsObjectErr, Object, Directory, count_of}
 use common.{kind_of, object_at, value_len, Constructs, FindsOrConstructs, BeginsObjectFor, MakesValue, with_count}
-use common.{handle_at}
-use common.{found_object_answer, IsNewKeyOf, bare, IsObjectInBlock, pair_of_kind, AnswersWith, IsSegment, TakesStep}
-use common.{SegmentState, answer_of, handle_answer, is_read_only, Reply, effect, found, with_new_object}
+use common.{handle_at, found_object_answer, IsNewKeyOf, bare, IsObjectInBlock, pair_of_kind, AnswersWith, IsSegment}
+use common.{TakesStep, SegmentState, answer_of, handle_answer, is_read_only, Reply, effect, found, with_new_object}
 use Rattle.segment_manager.proofs.objects.FoundOrMade.{constructs-exists, finds, found-there, made_for, made_handle}
-use Rattle.segment_manager.proofs.objects.FoundOrMade.{makes, makes-nothing}
 use Rattle.segment_manager.proofs.objects.NewValues.{IsMadeNever, IsMadeNow, away-in, value-built, value-loose}
+use Rattle.segment_manager.specs.containers.Filled.{HasBegun, FillsObject, IsShapeOf}
+use Rattle.segment_manager.proofs.objects.FoundOrMade.{makes, makes-nothing}
 use Rattle.segment_manager.proofs.objects.NewValues.{value-not_built, value-ready}
 use Rattle.segment_manager.proofs.objects.NotBegun.{key-taken, value-not_begun}
 use Rattle.segment_manager.proofs.{directory.CommandSteps.step-segment, indexes.Bridge.lookup-absent}
-use Rattle.segment_manager.proofs.{objects.NewKeys.key-seeks}
-use Rattle.segment_manager.specs.containers.Filled.{HasBegun, FillsObject, IsShapeOf}
+use Rattle.segment_manager.proofs.objects.NewKeys.{key-seeks}
 use Rattle.segment_manager.specs.objects.PendingObjects.{Ends, IsEnding}
 use Rattle.segment_manager.specs.{objects.Found.found_object, Answers.Found}
 use Rattle.segment_manager.specs.declared.objects.pending_object.PendingObject.{PendingObject}

@@ -2,15 +2,14 @@
 use Rattle.seg_types.specs.Commands as asked
 use Rattle.segment_manager.proofs.Common.{◌≡◌, sym, ap, ◌∙◌, ℕ, None, WindowState, Key, Made, Plan, Reply, bare}
 use Rattle.segment_manager.proofs.Common.{SegmentState, found, refl, if◌then◌else◌, found_object_answer}
-use Rattle.segment_manager.proofs.Common.{with_new_object}
-use Rattle.segment_manager.proofs.Common.{pair_of_kind, is_read_only, false, Option, Result, handle, Exists, Answer}
-use Rattle.segment_manager.proofs.Common.{Object, Refuse, TakesStep, effect, Some, Refusal, NoSpace, Content, Refused}
-use Rattle.segment_manager.proofs.Common.{kind_of, IsObjectInBlock, AnswersWith, Command, SameSurroundings, WrongKind}
-use Rattle.segment_manager.proofs.Common.{same_kind, Directory, object_at, handle_at, DenotesCurrent}
+use Rattle.segment_manager.proofs.Common.{with_new_object, pair_of_kind, is_read_only, false, Option, Result, handle}
+use Rattle.segment_manager.proofs.Common.{Exists, Answer, Object, Refuse, TakesStep, effect, Some, Refusal, NoSpace}
+use Rattle.segment_manager.proofs.Common.{Content, Refused, kind_of, IsObjectInBlock, AnswersWith, Command}
+use Rattle.segment_manager.proofs.Common.{SameSurroundings, WrongKind, same_kind, Directory, object_at, handle_at}
 use Rattle.segment_manager.proofs.directory.CommandSteps.{by_no_change, by_step, lands, open-writing, step-plan}
-use Rattle.segment_manager.proofs.directory.CommandSteps.{step-refuse}
-use Rattle.segment_manager.proofs.objects.Constructed.{IsNewObject, IsNoObject}
-use Rattle.segment_manager.proofs.{objects.Here.here, objects.KeyCalls.kind-step}
+use Rattle.segment_manager.proofs.{Common.DenotesCurrent, directory.CommandSteps.step-refuse}
+use Rattle.segment_manager.proofs.{objects.Constructed.IsNewObject, objects.Constructed.IsNoObject, objects.Here.here}
+use Rattle.segment_manager.proofs.objects.KeyCalls.{kind-step}
 
 -- ---- an object that is constructed
 

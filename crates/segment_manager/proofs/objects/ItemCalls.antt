@@ -11,7 +11,9 @@ use common.{DenotesCurrent, Refusal, NoSpace, Command, Refused, current, resized
 use common.{WritesUnindexedObject, Denotes, Numbers, BeginsObjectErr, length-map, ObjectRole, ScalarKind, OutOfRange}
 use common.{RefusesKey}
 use common.{LeadsThere, object_len, with_object, is_read_only, with_new_object, if◌then◌else◌, mul-le-mul_left}
-use common.{length-replicate, AllocatesOk, is_good_value}
+use common.{length-replicate, AllocatesOk, is_good_value, inl, inr, option_map, Mode, AnswersWith, IsObjectInBlock}
+use common.{handle_at, pair_of_kind, with_count, Index, Kind, IsAbsentAt, IsNewKeyOf, Write}
+use Rattle.seg_index.specs.declared.keys.Entry.{Entry}
 use Rattle.segment_manager.proofs.directory.CommandSteps.{step-segment, perform-new, refuses-read_only, by_no_change}
 use Rattle.segment_manager.proofs.directory.CommandSteps.{by_step, lands}
 use Rattle.segment_manager.proofs.directory.CommandSteps.{open-writing, step-plan, step-refuse}
@@ -20,11 +22,11 @@ use Rattle.segment_manager.proofs.objects.NewValues.{away-in, value-built, value
 use Rattle.segment_manager.proofs.objects.NotBegun.{key-taken, value-not_begun}
 use Rattle.segment_manager.proofs.objects.ArrayItems.{by-items, from-items}
 use Rattle.segment_manager.proofs.objects.FoundOrMade.{made_handle, makes}
-use Rattle.segment_manager.proofs.{objects.NewNumbers.numbers-made, objects.MadeValues.headed-change}
+use Rattle.segment_manager.proofs.{objects.NewNumbers.numbers-made, objects.MadeValues.headed-change, objects.Here.here}
 use Rattle.segment_manager.proofs.{indexes.Bridge.lookup-absent, directory.HeapCalls.denotes-live}
 use Rattle.segment_manager.proofs.objects.NewKeys.{key-seeks, numbers-value}
 use Rattle.segment_manager.specs.objects.PendingObjects.{Ends, IsEnding, Fills}
-use Rattle.segment_manager.specs.objects.Items.{TakesItemsIn}
+use Rattle.segment_manager.specs.objects.Items.{FindsOrTakes, FindsOrTakesIn, TakesItemsIn}
 use Rattle.segment_manager.specs.containers.Filled.{MakesValueOk, numbers_shape}
 use Rattle.segment_manager.specs.declared.containers.fillings.ObjectShape.{ObjectShape}
 
@@ -334,3 +336,82 @@ module _ (S : Type 0) {A : Type 0} (gives : S → Option A → S → Type 0) (wh
       pub items-taken : ConstructsFromItems gives whole t (record s { cut = c }) key k count before after result
       items-taken = subst (λ (u : SegmentState).
           ConstructsFromItems gives whole u (record s { cut = c }) key k count before after result) view finished
+
+-- ---- found, or made of items
+
+module _ (S : Type 0) {A : Type 0} (gives : S → Option A → S → Type 0) (whole : A
+    → ℤ) {a : WindowState} (key : names.Key) (k : ScalarKind) (count : ℕ) (before : S) where
+  -- an object has the key
+  pub found-items : {h : ℕ} {r : Result (ℕ × ℕ) Refusal}
+      → ((mode : Mode) → AnswersWith (record { cut = a; mode = mode })
+      (λ d. handle_at d key) (Some h)) → ((o : Object) → IsObjectInBlock a.bytes h o → r ≡ pair_of_kind o (Scalar k))
+      → FindsOrTakesIn gives whole a a key k count before before r
+  found-items {h} there each mode writing = inr (inl (record {
+    writing = writing;
+    is = record {
+      answers = λ d st.
+          let o = here a.bytes d key h st.denotes ((there mode).answers d st) in
+          ap (λ q. Some q) (each o.object o.stands)
+          ∙ sym (ap (option_map (λ (p : Object). pair_of_kind p (Scalar k))) o.is);
+    };
+    stays = record { segment = refl; items = refl };
+  }))
+
+  -- no object has the key: one is made, or the call fails
+  pub made-items_or_none : {c : WindowState} {after : S} (r : Result ℕ Refusal)
+      → ((d : Directory) → DenotesCurrent a.bytes d
+      → object_at d key ≡ None) → TakesItemsIn gives whole a c key k count before after r
+      → FindsOrTakesIn gives whole a c key k count before after (with_count count r)
+  made-items_or_none (Ok h) none done mode writing =
+      inr (inr (record { writing = writing; missing = none; takes = done mode writing; counted = refl }))
+  made-items_or_none (Err why) none done mode writing =
+      inr (inr (record { writing = writing; missing = none; takes = done mode writing; counted = tt }))
+
+  -- the object is not pending, with the shape of this many numbers
+  pub none-items : {c : WindowState} {shape : ObjectShape} {j : ScalarKind} {why : Refusal}
+      → shape ≡ numbers_shape j count → j ≡ k → 1 ≤ count
+      → BeginsObjectErr a c key shape.kind shape.len why
+      → TakesItemsIn gives whole a c key k count before before (Err why)
+  none-items {c} {why = why} same is low not mode writing =
+      takes-none S gives whole key k count before why c writing low
+      (subst (λ (l : ScalarKind). BeginsObjectErr a c key (Scalar l) (size_of l * count) why) is
+      (subst (λ (q : ObjectShape). BeginsObjectErr a c key q.kind q.len why) same not))
+
+-- the key of an entry suits it
+pub shaped-key : (i : Index) (e : Entry) (key : names.Key) (name : List ℕ) {shape : ObjectShape} {j k : ScalarKind}
+    {count : ℕ}
+    → shape ≡ numbers_shape j count → j ≡ k → IsNewKeyOf i e key name (Scalar k) → IsNewKeyOf i e key name shape.kind
+shaped-key i e key name same is new =
+    subst (IsNewKeyOf i e key name) (sym (ap (λ (q : ObjectShape). q.kind) same ∙ ap Scalar is)) new
+
+-- no object has the key of an entry that does not exist
+pub no-objects : {a : WindowState} (i : Index) (e : Entry) (at : ℕ) (key : names.Key) (name : List ℕ) (kind : Kind)
+    → IsNewKeyOf i e key name kind → IsAbsentAt a i e at → (d : Directory) → DenotesCurrent a.bytes d
+    → object_at d key ≡ None
+no-objects {a} i e at key name kind new away d st =
+    (lookup-absent i a e key st.denotes (key-seeks i e key name kind new) (away-in i e at st.denotes away)).none
+
+-- ---- the segment afterwards
+
+-- a segment in which the object was found or constructed
+pub found-segment : {S A : Type 0} {gives : S → Option A → S → Type 0} {whole : A
+    → ℤ} {a c : WindowState} {key : names.Key}
+    {k : ScalarKind} {count : ℕ} {before after : S} {r : Result (ℕ × ℕ) Refusal} → IsSegment a.bytes
+    → FindsOrTakesIn gives whole a c key k count before after r → IsSegment c.bytes
+found-segment b done = elim (done Write refl) [
+  | inl o ↦ subst (λ (u : SegmentState). IsSegment u.cut.bytes) (sym o.stays.segment) b
+  | inr m ↦ elim m [
+    | inl o ↦ subst (λ (u : SegmentState). IsSegment u.cut.bytes) (sym o.stays.segment) b
+    | inr o ↦ step-segment _ _ _ _ o.takes.step b
+  ]
+]
+
+-- the object was found: no items are taken
+pub seen-found_items : {S A : Type 0} {gives : S → Option A → S → Type 0} {whole : A
+    → ℤ} {s t : SegmentState} (view : s ≡ t)
+    {c : WindowState} {key : names.Key} {k : ScalarKind} {count : ℕ} {before after : S} {r : Result (ℕ × ℕ) Refusal}
+    → is_read_only t.mode ≡ false → FindsOrTakesIn gives whole s.cut c key k count before after r
+    → FindsOrTakes gives whole t (record s { cut = c }) key k count before after r
+seen-found_items {gives = gives} {whole} {s} view {c} {key} {k} {count} {before} {after} {r} writing done =
+    subst (λ (u : SegmentState). FindsOrTakes gives whole u (record s { cut = c }) key k count before after r) view
+    (done s.mode (subst (λ (u : SegmentState). is_read_only u.mode ≡ false) (sym view) writing))

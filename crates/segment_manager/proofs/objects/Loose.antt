@@ -2,12 +2,11 @@
 use Rattle.segment_manager.proofs.Common.{sym, subst, ◌+◌, Some, None, List, arith, IsTrue, WindowState, IsHeap, Kind}
 use Rattle.segment_manager.proofs.Common.{Class, Key, Role, ℕ, Option, IfSome, current, LiveSet, live_of}
 use Rattle.segment_manager.proofs.Common.{BeginsObjectOk, WritesObjectHeader, WritesUnindexedObject, room_for}
-use Rattle.segment_manager.proofs.Common.{PreparesOk, []}
-use Rattle.segment_manager.proofs.Common.{ObjectRole, Deallocates, has_room, is_live_in, FreesGrowth, index_at}
-use Rattle.segment_manager.proofs.Common.{PendingEntry, RestoresBlocks, AllocatesOk, allocated-is_live, allocated-room}
-use Rattle.segment_manager.proofs.Common.{changed-room, lay_out_one, WritesUnindexedAlone, WritesUnindexedForEntry}
+use Rattle.segment_manager.proofs.Common.{PreparesOk, [], ObjectRole, Deallocates, has_room, is_live_in, FreesGrowth}
+use Rattle.segment_manager.proofs.Common.{index_at, PendingEntry, RestoresBlocks, AllocatesOk, allocated-is_live}
+use Rattle.segment_manager.proofs.Common.{allocated-room, changed-room, lay_out_one, WritesUnindexedAlone}
 use Rattle.segment_manager.proofs.objects.Taking.{growth-held, restored-taken, written-taken}
-use Rattle.segment_manager.proofs.objects.Pieces.{changed-heap}
+use Rattle.segment_manager.proofs.{Common.WritesUnindexedForEntry, objects.Pieces.changed-heap}
 use Rattle.best_fit.proofs.Laws.{taken-back}
 
 -- ---- begun: the value has room after the head

@@ -6,9 +6,8 @@ use common.{nat_lt, Exists, if◌then◌else◌, is_some, eq-eqb, Extent, handle
 use common.{BackingArray, OwnedText, Class, Anonymous, size_of, Key, ByHandle, Mode, Content, Answer, Made, Refused}
 use common.{Directory, Object, Value, live, has_key, object_at, put_object, Elements, Bytes, Texts, Plan, Refuse, Reply}
 use common.{Request, perform, met, with_spare_entry, with_entry, with_storage, with_owned_text, with_owned_texts}
-use common.{with_value}
-use common.{with_new_object, class_of, name_of, Need, is_read_only, plan, step, is_object_at, AnswersWith, IsSegment}
-use common.{TakesStep, SegmentState, find}
+use common.{with_value, with_new_object, class_of, name_of, Need, is_read_only, plan, step, is_object_at, AnswersWith}
+use common.{IsSegment, TakesStep, SegmentState, find}
 use Rattle.segment_manager.proofs.objects.KeyCalls.{object-passes}
 use Rattle.seg_types.specs.declared.kinds.Class.TheVariants.{Named, Unique}
 

@@ -10,11 +10,10 @@ use common.{AllByRecursion, SameSurroundings-trans, allocated-live, spaced-inser
 use common.{exchanged, class_code, IsObjectAt, two_halves, bytes_of, SameBytesExcept-SameBytes, SameBlockExcept}
 use common.{ExchangesBlocks, blocks-trans, with_storage}
 use Rattle.segment_manager.proofs.objects.Taking.{IsTaken, requested-taken, taken-live, written-taken}
+use Rattle.segment_manager.proofs.directory.ExtentOrder.{inserted, all_of-insert, live-rises, resized-fresh}
 use Rattle.segment_manager.proofs.objects.Exchanged.{all-but-beside, put-first}
 use Rattle.segment_manager.proofs.blocks.NewBlocks.{allocated-serves, changed-trans}
-use Rattle.segment_manager.proofs.directory.ExtentOrder.{inserted, all_of-insert, live-rises, resized-fresh}
-use Rattle.segment_manager.proofs.directory.ExtentOrder.{rising-insert}
-use Rattle.segment_manager.proofs.directory.Frame.{padded_name-length}
+use Rattle.segment_manager.proofs.{directory.ExtentOrder.rising-insert, directory.Frame.padded_name-length}
 use Rattle.raw_region.proofs.{Facts.second, Facts.no_more, Laws.SameBytesExcept-wider}
 use Rattle.best_fit.specs.Fit.{insert}
 

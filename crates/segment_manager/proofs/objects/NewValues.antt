@@ -16,17 +16,16 @@ use Rattle.segment_manager.proofs.objects.Taking.{IsMade, IsTaken, taken-growth,
 use Rattle.segment_manager.proofs.objects.Taking.{growth-stays, made-key, made-stays, restored-taken}
 use Rattle.segment_manager.proofs.objects.MadeValues.{empty-taken, made-object, made-taken, placed-next}
 use Rattle.segment_manager.proofs.objects.Constructed.{IsNewObject, IsNoObject, content-denied, content-entered}
-use Rattle.segment_manager.proofs.{objects.Constructed.restored-denotes, objects.KindCodes.known-kind}
-use Rattle.segment_manager.proofs.{indexes.Bridge.lookup-absent}
-use Rattle.segment_manager.proofs.{directory.HeapCalls.denotes-live, directory.OneObject.denotes-with}
-use Rattle.segment_manager.proofs.{objects.Heads.object-entry}
-use Rattle.segment_manager.proofs.{blocks.NewBlocks.allocated-serves, directory.LiveSet.adding}
-use Rattle.segment_manager.proofs.{directory.CommandSteps.perform-new}
-use Rattle.segment_manager.proofs.indexes.HeldIndexes.{denotes-index, denotes-sorted}
 use Rattle.segment_manager.proofs.objects.NewKeys.{key-object, key-of, key-seeks, key-short, key-sort, object_of}
+use Rattle.seg_index.proofs.Laws.{ObjectStays, belongs-at, keeps-sorted, place_behind, place_small, stays-trans}
+use Rattle.segment_manager.proofs.{objects.Constructed.restored-denotes, objects.KindCodes.known-kind}
+use Rattle.segment_manager.proofs.{indexes.Bridge.lookup-absent, directory.HeapCalls.denotes-live}
+use Rattle.segment_manager.proofs.{directory.OneObject.denotes-with, objects.Heads.object-entry}
+use Rattle.segment_manager.proofs.{blocks.NewBlocks.allocated-serves, directory.LiveSet.adding}
+use Rattle.segment_manager.proofs.directory.CommandSteps.{perform-new}
+use Rattle.segment_manager.proofs.indexes.HeldIndexes.{denotes-index, denotes-sorted}
 use Rattle.seg_index.specs.{declared.keys.Entry.Entry, Sorted.BelongsAt}
 use Rattle.segment_manager.specs.objects.PendingObjects.{GivesAllBack, AddsPendingEntry}
-use Rattle.seg_index.proofs.Laws.{ObjectStays, belongs-at, keeps-sorted, place_behind, place_small, stays-trans}
 
 -- ---- places
 

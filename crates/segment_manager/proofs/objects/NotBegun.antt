@@ -2,15 +2,14 @@
 use Rattle.seg_types.specs.Names as names
 use Rattle.segment_manager.proofs.Common.{◌≡◌, sym, ap, subst, ◌∙◌, inl, inr, Some, [], WindowState, place, Object}
 use Rattle.segment_manager.proofs.Common.{live, bare, refl, ObjectRole, BeginsObjectErr, RefusesKey, object_len}
-use Rattle.segment_manager.proofs.Common.{with_object}
-use Rattle.segment_manager.proofs.Common.{entries_of, current, NoSpace, Content, Denotes, kind_of, table_of, room_for}
-use Rattle.segment_manager.proofs.Common.{DenotesCurrent, SameSurroundings, AllocatesNoSpace, Anonymous, Directory}
-use Rattle.segment_manager.proofs.{Common.object_at, Common.value_len, Common.with_value, indexes.Bridge.lookup-absent}
-use Rattle.segment_manager.proofs.{indexes.Bridge.lookup-found, directory.HeapCalls.denotes-live}
-use Rattle.segment_manager.proofs.{indexes.HeldIndexes.denotes-index}
+use Rattle.segment_manager.proofs.Common.{with_object, entries_of, current, NoSpace, Content, Denotes, kind_of}
+use Rattle.segment_manager.proofs.Common.{table_of, room_for, DenotesCurrent, SameSurroundings, AllocatesNoSpace}
+use Rattle.segment_manager.proofs.Common.{Anonymous, Directory, object_at, value_len, with_value}
+use Rattle.segment_manager.proofs.objects.NewValues.{no_key-none, away-in, IsMadeNever}
+use Rattle.segment_manager.proofs.indexes.Bridge.{lookup-absent, lookup-found}
+use Rattle.segment_manager.proofs.{directory.HeapCalls.denotes-live, indexes.HeldIndexes.denotes-index}
 use Rattle.segment_manager.proofs.{objects.NewKeys.key-seeks, directory.CommandSteps.perform-no_space}
 use Rattle.segment_manager.proofs.objects.Constructed.{content-none, restored-denotes}
-use Rattle.segment_manager.proofs.objects.NewValues.{no_key-none, away-in, IsMadeNever}
 use Rattle.segment_manager.specs.objects.PendingObjects.{BeginsEntryErr}
 
 -- ---- it is not begun

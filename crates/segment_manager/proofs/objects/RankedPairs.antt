@@ -3,10 +3,9 @@ use Rattle.segment_manager.proofs.Common.{◌≡◌, refl, sym, subst, ◌∙◌
 use Rattle.segment_manager.proofs.Common.{cond, Class, Object, rises, ap, length, if◌then◌else◌, IsTrue, filter}
 use Rattle.segment_manager.proofs.Common.{AllByRecursion, and_from, is_class, remove_object, insert_by}
 use Rattle.segment_manager.proofs.directory.LiveSet.{IsFound, Place, here, behind, found-place, found-nothing}
-use Rattle.segment_manager.proofs.directory.LiveSet.{remove-here}
 use Rattle.segment_manager.proofs.objects.Ranks.{before, after, ranked-sym, AllRanked, put_all, all_of-insert_by}
-use Rattle.segment_manager.proofs.{directory.LiveSet.remove-behind, objects.Ranks.IsStrict, objects.Ranks.IsRanked}
-use Rattle.segment_manager.proofs.{directory.IndexedParts.ordered}
+use Rattle.segment_manager.proofs.directory.LiveSet.{remove-here, remove-behind}
+use Rattle.segment_manager.proofs.{objects.Ranks.IsStrict, objects.Ranks.IsRanked, directory.IndexedParts.ordered}
 use Rattle.raw_region.proofs.Facts.{first, second}
 
 -- ---- in a rising list each two objects are ranked

@@ -3,9 +3,8 @@ use Rattle.segment_manager.proofs.Common.{◌≡◌, refl, sym, ap, subst, ◌�
 use Rattle.segment_manager.proofs.Common.{if◌then◌else◌, cond, nat_lt, filter, fold, AllByRecursion, Class, Object}
 use Rattle.segment_manager.proofs.Common.{is_class, put_object, remove_object, insert_by}
 use Rattle.segment_manager.proofs.directory.LiveSet.{IsFound, Place, here, behind, found-place, found-nothing}
-use Rattle.segment_manager.proofs.directory.LiveSet.{remove-here}
+use Rattle.segment_manager.proofs.directory.LiveSet.{remove-here, remove-behind}
 use Rattle.segment_manager.proofs.{directory.IndexedParts.ordered, objects.ObjectLists.put-if}
-use Rattle.segment_manager.proofs.{directory.LiveSet.remove-behind}
 
 -- an order that is strict
 pub record IsStrict (lt : Object → Object → Bool) : Type 0 where

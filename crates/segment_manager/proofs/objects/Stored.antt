@@ -1,30 +1,27 @@
 -- The elements of a key's object: the place and the number of each, the result of reading one, and writing one.
 use Rattle.segment_manager.proofs.Common as common
 use Rattle.seg_types.specs.Commands as asked
-use common.{◌≡◌, Option, Result, length, IsTrue, nat_lt, handle, Scalar, Object, padded, eq-eqb, Refuse, effect}
-use common.{refl, subst, zero, Bool, true, false, Some, None, List, arith, read, SegmentState, Mode, Done, live, Reply}
-use common.{with, sym, ap, ◌∙◌, suc, ◌+◌, ◌*◌, ◌<◌, ◌≤◌, pos, Ok, Err, [], ◌∷◌, HasBytesAt, Key, map, ℕ, list_all}
-use common.{ltb-true, bytes_of, has_room, option_map, Located, slice_set, ltb-false, IsSegment, values_of, ℤ}
-use common.{live_of, Refusal, NotFound, is_value, size_of, spelling, spelled, count_of, IsObjectInBlock, BoolKind}
-use common.{cons_values, get_or, Numbers, kind_of, Denotes, AnswersWith, code_of, Literal, Refused, perform}
-use common.{changed, Command, if◌then◌else◌, ScalarKind, OutOfRange, is_good_value, MatchOption, false≢true}
-use common.{step_of_kind, slice_get, current, WrongKind, same_kind, Directory, is_object, object_at}
-use common.{value_len, IsValueAt, literal_of, mul-le-mul_left, slice_get-get_or, slice_get_within, slice_get_past}
-use common.{value_of_literal, set as set_element}
+use common.{◌≡◌, Option, Result, length, IsTrue, nat_lt, handle, Scalar, Object, padded, eq-eqb, Refuse, effect, refl}
+use common.{subst, zero, Bool, true, false, Some, None, List, arith, read, SegmentState, Mode, Done, live, Reply, with}
+use common.{sym, ap, ◌∙◌, suc, ◌+◌, ◌*◌, ◌<◌, ◌≤◌, pos, Ok, Err, [], ◌∷◌, HasBytesAt, Key, map, ℕ, list_all, ltb-true}
+use common.{bytes_of, has_room, option_map, Located, slice_set, ltb-false, IsSegment, values_of, ℤ, live_of, Refusal}
+use common.{NotFound, is_value, size_of, spelling, spelled, count_of, IsObjectInBlock, BoolKind, cons_values, get_or}
+use common.{Numbers, kind_of, Denotes, AnswersWith, code_of, Literal, Refused, perform, changed, Command, if◌then◌else◌}
+use common.{ScalarKind, OutOfRange, is_good_value, MatchOption, false≢true, step_of_kind, slice_get, current, WrongKind}
+use common.{same_kind, Directory, is_object, object_at, value_len, IsValueAt, literal_of, mul-le-mul_left}
+use common.{slice_get-get_or, slice_get_within, slice_get_past, value_of_literal, set as set_element}
 use Rattle.segment_manager.proofs.directory.CommandSteps.{step_of_kind-found, step_of_kind-not_found}
-use Rattle.segment_manager.proofs.directory.CommandSteps.{step_of_kind-other}
-use Rattle.segment_manager.proofs.{objects.KindCodes.numbers-only, directory.Frame.object-roomy, objects.Here.standing}
-use Rattle.segment_manager.proofs.{directory.CommandSteps.with-found}
-use Rattle.segment_manager.proofs.{directory.CommandSteps.IsOpenFor, blocks.Blocks.spelling-length}
-use Rattle.segment_manager.proofs.{objects.Standings.standing-room}
-use Rattle.segment_manager.proofs.{objects.Slices.HasBytesAt-element, containers.ContentPlans.of_slice}
-use Rattle.raw_region.proofs.Facts.{first, second}
-use Rattle.best_fit.specs.declared.places.Place.{Place}
+use Rattle.segment_manager.proofs.directory.CommandSteps.{step_of_kind-other, with-found, IsOpenFor}
 use Rattle.segment_manager.specs.objects.Located.{element_in, located, located_at}
 use Rattle.segment_manager.specs.objects.Standing.{element_at, place_at, offset_in}
-use Rattle.segment_manager.specs.objects.BoundObjects.{IsBound, key_of}
 use Rattle.segment_manager.specs.objects.ElementLists.{element_of, numbers_at, whole_of}
+use Rattle.segment_manager.proofs.{objects.KindCodes.numbers-only, directory.Frame.object-roomy, objects.Here.standing}
+use Rattle.segment_manager.proofs.{blocks.Blocks.spelling-length, objects.Standings.standing-room}
+use Rattle.segment_manager.proofs.{objects.Slices.HasBytesAt-element, containers.ContentPlans.of_slice}
 use Rattle.segment_manager.proofs.objects.ElementLists.{numbers-listed}
+use Rattle.raw_region.proofs.Facts.{first, second}
+use Rattle.best_fit.specs.declared.places.Place.{Place}
+use Rattle.segment_manager.specs.objects.BoundObjects.{IsBound, key_of}
 use Rattle.std.specs.Option.{ok_or}
 use Rattle.byteorder.specs.Endian.{little_number}
 use Rattle.seg_types.specs.Kinds.{is_spelling, value_of}

@@ -1,6 +1,4 @@
 -- A number of a key's object is written: the directory of the bytes after it is the step's.
-use Rattle.segment_manager.specs.Keeping.{ChangesElement}
-use Rattle.std.specs.Prelude.{IfOk}
 use Rattle.segment_manager.proofs.Common as common
 use Rattle.seg_types.specs.Commands as asked
 use common.{◌≡◌, refl, sym, ap, subst, ◌∙◌, ℕ, zero, suc, ◌+◌, ◌*◌, ◌<◌, ◌≤◌, ℤ, Bool, true, false, Some, None, Ok, Err}
@@ -11,17 +9,18 @@ use common.{Literal, value_of_literal, Mode, Refused, Done, live, perform, IsSeg
 use common.{nat_le, and_from, WindowState, SameBytesExcept, ObjectRole, ChangesBytes, serves, literal_of, has_good_name}
 use common.{value_extents, with_changed, TakesStepOfKind, is_read_only}
 use Rattle.segment_manager.proofs.directory.CommandSteps.{step_of_kind-found, by_no_change_of_kind, by_step_of_kind}
-use Rattle.segment_manager.proofs.directory.CommandSteps.{lands, open-writing}
 use Rattle.segment_manager.proofs.objects.Stored.{ElementAt, numbers-good, element-found, element-missing}
 use Rattle.segment_manager.proofs.objects.Stored.{numbers-stand, set-effect, element-kind, missing-steps, literal-read}
 use Rattle.segment_manager.proofs.containers.Safely.{Answered, answered, done-so}
+use Rattle.segment_manager.specs.{Keeping.ChangesElement, objects.Standing.place_at}
+use Rattle.std.specs.Prelude.{IfOk}
+use Rattle.segment_manager.proofs.directory.CommandSteps.{lands, open-writing}
 use Rattle.segment_manager.proofs.objects.Rewritten.{value_start, with_value}
 use Rattle.segment_manager.proofs.{objects.Slices.HasBytesAt-set, directory.Frame.object-roomy}
-use Rattle.segment_manager.proofs.{blocks.Blocks.spelling-length}
-use Rattle.segment_manager.proofs.{objects.ObjectLists.key-found, objects.Exchanged.denotes-rewritten}
+use Rattle.segment_manager.proofs.{blocks.Blocks.spelling-length, objects.ObjectLists.key-found}
+use Rattle.segment_manager.proofs.objects.Exchanged.{denotes-rewritten}
 use Rattle.raw_region.proofs.Facts.{second, first}
 use Rattle.best_fit.specs.declared.places.Place.{Place}
-use Rattle.segment_manager.specs.objects.Standing.{place_at}
 use Rattle.std.proofs.{Common.set, lemmas.List.length-set}
 
 -- ---- the numbers with one replaced

@@ -2,25 +2,24 @@
 -- added, or all blocks are freed.
 use Rattle.seg_types.specs.Names as names
 use Rattle.std.specs.Prelude.{◌≡◌, ℕ, ℤ, ◌<◌, ◌^◌, ◌*◌, false, true, [], replicate, Option, Result, Ok, Err, IfErr}
+use Rattle.seg_types.specs.Commands.{Command, Construct, Content, FindOrConstruct, Numbers}
+use Rattle.segment_manager.specs.Answers.{Answer, Refused, is_untouched}
+use Rattle.segment_manager.specs.Directory.{value_len, Value, Directory, count_of, is_good_value, kind_of}
+use Rattle.segment_manager.specs.Plan.{Plan, bare, perform, with_value}
+use Rattle.segment_manager.specs.objects.PendingObjects.{GivesAllBack, BeginsObjectOk, LeadsThere}
+use Rattle.segment_manager.specs.State.{IsSegment, TakesStep, DenotesCurrent, SegmentState, handle_answer}
 use Rattle.std.specs.Prelude.{MatchResult, IsTrue}
 use Rattle.raw_region.specs.{Format.current, Memory.WindowState, Memory.bytes_of}
 use Rattle.best_fit.specs.{Exchange.ExchangesBlocks, Extents.LiveSet, Heap.ChangesBytes, Heap.live_of}
+use Rattle.best_fit.specs.declared.places.Place.{Place}
 use Rattle.seg_types.specs.{declared.kinds.Kind.Kind, declared.kinds.Kind.TheVariants.Scalar}
 use Rattle.seg_types.specs.{declared.kinds.ScalarKind.ScalarKind, declared.refusals.Refusal.Refusal, Kinds.size_of}
 use Rattle.seg_types.specs.declared.refusals.Refusal.TheVariants.{NoSpace}
-use Rattle.seg_types.specs.Commands.{Command, Construct, Content, FindOrConstruct, Numbers}
-use Rattle.best_fit.specs.declared.places.Place.{Place}
 use Rattle.seg_vector.specs.Containers.{place_at}
 use Rattle.segment_manager.specs.declared.objects.pending_object.PendingEntry.{PendingEntry}
-use Rattle.segment_manager.specs.declared.containers.fillings.ObjectShape.{ObjectShape}
-use Rattle.segment_manager.specs.{declared.modes.Mode.Mode, Answers.Answer, Answers.Refused, Answers.is_untouched}
-use Rattle.segment_manager.specs.{Denotes.IsValueAt, Directory.value_len, objects.Found.found_object_answer}
-use Rattle.segment_manager.specs.{Keeping.IsBoundKey}
-use Rattle.segment_manager.specs.{objects.NewObjects.RestoresBlocks, Plan.Plan, Plan.bare, Plan.perform}
-use Rattle.segment_manager.specs.{Plan.with_value, Step.is_read_only}
-use Rattle.segment_manager.specs.objects.PendingObjects.{GivesAllBack, BeginsObjectOk, LeadsThere}
-use Rattle.segment_manager.specs.Directory.{Value, Directory, count_of, is_good_value, kind_of, value_extents}
-use Rattle.segment_manager.specs.State.{IsSegment, TakesStep, DenotesCurrent, SegmentState, handle_answer}
+use Rattle.segment_manager.specs.{declared.containers.fillings.ObjectShape.ObjectShape, declared.modes.Mode.Mode}
+use Rattle.segment_manager.specs.{Denotes.IsValueAt, Directory.value_extents, objects.Found.found_object_answer}
+use Rattle.segment_manager.specs.{Keeping.IsBoundKey, objects.NewObjects.RestoresBlocks, Step.is_read_only}
 
 -- ---- the value
 

@@ -1,12 +1,11 @@
 -- Located objects, which calls accept without another look-up.
 use Rattle.std.specs.Prelude.{ℕ, ◌+◌, ◌*◌, Option, Some, Result, Ok, Err, length, nat_lt, option_map, if◌then◌else◌}
-use Rattle.best_fit.specs.{Extents.handle, declared.places.Place.Place}
-use Rattle.seg_types.specs.{Names.ByHandle, Names.Key, Kinds.size_of}
-use Rattle.seg_types.specs.{declared.refusals.Refusal.Refusal, declared.kinds.ScalarKind.ScalarKind}
-use Rattle.seg_types.specs.declared.refusals.Refusal.TheVariants.{OutOfRange}
-use Rattle.segment_manager.specs.declared.objects.object_ref.Object.{Object as Located}
 use Rattle.segment_manager.specs.Directory.{Object, Directory, count_of, kind_of, object_at, padded}
-use Rattle.segment_manager.specs.{Layout.head_len, State.AnswersWith, State.SegmentState}
+use Rattle.best_fit.specs.{Extents.handle, declared.places.Place.Place}
+use Rattle.seg_types.specs.{Names.ByHandle, Names.Key, Kinds.size_of, declared.refusals.Refusal.Refusal}
+use Rattle.seg_types.specs.{declared.kinds.ScalarKind.ScalarKind, declared.refusals.Refusal.TheVariants.OutOfRange}
+use Rattle.segment_manager.specs.{declared.objects.object_ref.Object.Object as Located, Layout.head_len}
+use Rattle.segment_manager.specs.State.{AnswersWith, SegmentState}
 
 -- an object as it is located
 abbrev pub located : Object → Located

@@ -1,5 +1,5 @@
-//! Reads and changes the pairs of maps by their keys: each call looks the map up, and then calls the function of `Map` or
-//! `MapMut`. An error of the look-up comes first, and changes nothing.
+//! Reads and changes the pairs of maps by their keys: each call looks the map up, and then calls the function of `Map`
+//! or `MapMut`. An error of the look-up comes first, and changes nothing.
 ghost use Rattle.std.specs.Prelude.{◌≡◌, OnErr};
 ghost use Rattle.seg_types.specs.Commands.{Lookup, Put, Remove, literal_of};
 ghost use Rattle.seg_types.specs.declared.kinds.Kind.TheVariants.{Map as MapOf};

@@ -1,7 +1,8 @@
 //! Writes several elements of arrays and vectors of scalars in one call.
 ghost use Rattle.std.specs.Prelude.{◌≡◌, OnErr, OnOk, length, map};
 ghost use Rattle.best_fit.specs.Heap.{KeepsGaps};
-ghost use Rattle.segment_manager.specs.{State.done_answer, containers.Ranges.ChangesRange, containers.Ranges.WritesRange};
+ghost use Rattle.segment_manager.specs.State.{done_answer};
+ghost use Rattle.segment_manager.specs.containers.Ranges.{ChangesRange, WritesRange};
 
 use crate::bound::of_kind;
 use crate::bound::slices::{ArrayMut, VectorMut};

@@ -1,6 +1,6 @@
-//! Reads and changes the bytes of strings, and reads vectors of strings, by their keys: each call looks the object up, and
-//! then calls the function of `StringRef`, `StringMut` or `Strings`. An error of the look-up comes first, and changes
-//! nothing.
+//! Reads and changes the bytes of strings, and reads vectors of strings, by their keys: each call looks the object up,
+//! and then calls the function of `StringRef`, `StringMut` or `Strings`. An error of the look-up comes first, and
+//! changes nothing.
 ghost use Rattle.std.specs.Prelude.{◌≡◌, Ok, Err, MatchResult, [], ◌∷◌, OnErr, pos};
 ghost use Rattle.seg_types.specs.declared.kinds.Kind.TheVariants.{String as StringKind, Strings as StringsKind};
 ghost use Rattle.seg_types.specs.declared.kinds.ScalarKind.TheVariants.{U8 as ByteKind};

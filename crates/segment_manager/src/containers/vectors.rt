@@ -1,5 +1,5 @@
-//! Reads and changes the elements of vectors of scalars by their keys: each call looks the vector up, and then calls the
-//! function of `Vector` or `VectorMut`. An error of the look-up comes first, and changes nothing.
+//! Reads and changes the elements of vectors of scalars by their keys: each call looks the vector up, and then calls
+//! the function of `Vector` or `VectorMut`. An error of the look-up comes first, and changes nothing.
 ghost use Rattle.std.specs.{Prelude.◌≡◌, Prelude.IsTrue, Prelude.OnErr, Prelude.map, Prelude.true, List.list_all};
 ghost use Rattle.seg_types.specs.declared.kinds.Kind.TheVariants.{Vector as VectorOf};
 ghost use Rattle.seg_types.specs.Commands.{Assign, Erase, Get, Insert, Pop, Push, Set, literal_of};

@@ -1,11 +1,12 @@
 //! Constructs objects of any contents, and arrays with several copies of one number.
-ghost use Rattle.std.specs.Prelude.{◌≡◌, ◌≤◌};
+ghost use Rattle.std.specs.Prelude.{◌≡◌, ◌≤◌, true};
 ghost use Rattle.seg_types.specs.declared.kinds.Kind.TheVariants.{Scalar as ScalarOf};
 ghost use Rattle.seg_types.specs.Values.{kind_of_scalar, value_of_scalar};
 ghost use Rattle.segment_manager.specs.{Directory.kind_of, Plan.bare, State.UnchangedIfRefused};
+ghost use Rattle.segment_manager.specs.objects.Counted.{RefusesCount, is_count};
 ghost use Rattle.segment_manager.specs.containers.Filled.{ConstructsObject, FillsObject, HasBegun, equal_numbers};
 
-use crate::containers::fillings::{NewNumbers, ObjectInit};
+use crate::containers::fillings::{MAX_COUNT, NewNumbers, ObjectInit};
 use crate::objects::construct_keys::ConstructKey;
 use crate::objects::pending_object::{PendingObject, begin_object, finish_object};
 use crate::segment::Segment;
@@ -21,7 +22,8 @@ impl Segment {
     ///
     /// # Conditions
     ///
-    /// `count` is from 1 to 1048576. The key suits the kind: a key with a kind has this kind ([`ConstructKey`]).
+    /// `count` is from 1 to 1048576; `construct_array` has no such condition. The key suits the kind: a key with a kind
+    /// has this kind ([`ConstructKey`]).
     ///
     /// # Errors
     ///
@@ -41,6 +43,33 @@ impl Segment {
         ensures refused { UnchangedIfRefused self.old self.new result }
     {
         self.construct_under(key, &NewNumbers { count, value })
+    }
+
+    /// Makes an array of `count` copies of a value, and returns its handle.
+    ///
+    /// Example: `let handle = segment.construct_array(&name, count, 0u8)?`.
+    ///
+    /// # Conditions and errors
+    ///
+    /// `ReadOnly` if the segment is open for reading. Otherwise `OutOfRange` if `count` is 0 or above 1048576: nothing
+    /// changes. Otherwise as `construct`, except for the count.
+    pub fn construct_array<T: Scalar, D: ConstructKey>(
+        &mut self,
+        key: &D,
+        count: u32,
+        value: T,
+    ) -> Result<Handle, Refusal>
+        requires kind { D.suits key.now (ScalarOf T.kind) }
+        ensures step { is_count count ≡ true
+            → ConstructsObject self.old self.new (D.key key.now (ScalarOf T.kind))
+            (equal_numbers T.kind count (T.whole value)) result }
+        ensures count { RefusesCount count self.old self.new result }
+        ensures refused { UnchangedIfRefused self.old self.new result }
+    {
+        if count == 0 || count > MAX_COUNT {
+            return Err(self.refusal_of_count());
+        }
+        self.construct(key, count, value)
     }
 
     /// Makes an array of `count` copies of a value of a kind, and returns its handle. The conditions and errors of

@@ -56,7 +56,7 @@ impl Segment {
 
     /// Returns the error for a count out of range: `ReadOnly` if the segment is open for reading, otherwise
     /// `OutOfRange`.
-    fn refusal_of_count(&self) -> Refusal
+    pub(crate) fn refusal_of_count(&self) -> Refusal
         ensures { result ≡ refusal_of_count self.now }
     {
         if self.is_read_only() {
@@ -120,7 +120,7 @@ impl Segment {
 
 /// Fills a new array with `count` items, and links its entry to it. If the iterator ends before `count` items, it frees
 /// everything that was allocated for the array.
-fn take_items<S: Spelling<A>, A, I: Iterator<Item = A>>(
+pub(crate) fn take_items<S: Spelling<A>, A, I: Iterator<Item = A>>(
     heap: &mut Heap,
     begun: PendingObject,
     kind: ScalarKind,

@@ -1,16 +1,17 @@
 //! Finds objects, or constructs them if there are none: objects of any contents, and arrays with several copies of one
 //! number.
-ghost use Rattle.std.specs.Prelude.{◌≡◌, ◌≤◌};
+ghost use Rattle.std.specs.Prelude.{◌≡◌, ◌≤◌, true};
 ghost use Rattle.seg_types.specs.{declared.kinds.Kind.TheVariants.Scalar as ScalarOf, Names.Key as AnyKey};
 ghost use Rattle.seg_types.specs.Values.{kind_of_scalar, value_of_scalar};
 ghost use Rattle.segment_manager.specs.{Directory.Object, Directory.kind_of, Keeping.IsBoundKey};
-ghost use Rattle.segment_manager.specs.Keeping.{UnchangedWhere};
+ghost use Rattle.segment_manager.specs.{Keeping.UnchangedWhere, objects.Counted.RefusesCount};
+ghost use Rattle.segment_manager.specs.objects.Counted.{is_count};
 ghost use Rattle.segment_manager.specs.{objects.NewObjects.IsNewKeyOf, Plan.bare, objects.Standing.HasObject};
 ghost use Rattle.segment_manager.specs.{objects.Standing.IsObjectInBlock, objects.Standing.pair_of_kind};
 ghost use Rattle.segment_manager.specs.containers.Filled.{FindsOrConstructs, FindsOrMakes, equal_numbers, with_count};
 ghost use Rattle.segment_manager.specs.State.{IsSegment, UnchangedIfRefused};
 
-use crate::containers::fillings::{NewNumbers, ObjectInit};
+use crate::containers::fillings::{MAX_COUNT, NewNumbers, ObjectInit};
 use crate::objects::construct_keys::FindOrConstructKey;
 use crate::objects::constructing::build;
 use crate::objects::finding::entry_of;
@@ -31,7 +32,8 @@ impl Segment {
     ///
     /// # Conditions
     ///
-    /// `count` is from 1 to 1048576. The key suits the kind: a key with a kind has this kind ([`ConstructKey`]).
+    /// `count` is from 1 to 1048576; `find_or_construct_array` has no such condition. The key suits the kind: a key with
+    /// a kind has this kind ([`ConstructKey`]).
     ///
     /// # Errors
     ///
@@ -53,6 +55,35 @@ impl Segment {
         ensures search { UnchangedWhere self.old self.new (IsBoundKey (D.key key.now (ScalarOf T.kind))) }
     {
         self.find_or_construct_under(key, &NewNumbers { count, value })
+    }
+
+    /// Returns the handle and the number of elements of the array of scalars of a key, or makes an array whose count is
+    /// known only at run time.
+    ///
+    /// Example: `let (handle, count) = segment.find_or_construct_array(&name, count, 0u8)?`.
+    ///
+    /// # Conditions and errors
+    ///
+    /// `ReadOnly` if the segment is open for reading. Otherwise `OutOfRange` if `count` is 0 or above 1048576: nothing
+    /// changes. Otherwise as `find_or_construct`, except for the count.
+    pub fn find_or_construct_array<T: Scalar, D: FindOrConstructKey>(
+        &mut self,
+        key: &D,
+        count: u32,
+        value: T,
+    ) -> Result<(Handle, u32), Refusal>
+        requires kind { D.suits key.now (ScalarOf T.kind) }
+        ensures step { is_count count ≡ true
+            → FindsOrMakes self.old self.new (D.key key.now (ScalarOf T.kind))
+            (equal_numbers T.kind count (T.whole value)) result }
+        ensures count { RefusesCount count self.old self.new result }
+        ensures refused { UnchangedIfRefused self.old self.new result }
+        ensures search { UnchangedWhere self.old self.new (IsBoundKey (D.key key.now (ScalarOf T.kind))) }
+    {
+        if count == 0 || count > MAX_COUNT {
+            return Err(self.refusal_of_count());
+        }
+        self.find_or_construct(key, count, value)
     }
 
     /// Returns the handle and the number of elements of the array of scalars of a key, or makes an array of a value of
@@ -138,7 +169,7 @@ fn find_or_construct_entered<F: ObjectInit>(
 
 /// Returns a handle with the count of its object.
 #[inline(always)]
-fn counted(made: Result<Handle, Refusal>, count: u32) -> Result<(Handle, u32), Refusal>
+pub(crate) fn counted(made: Result<Handle, Refusal>, count: u32) -> Result<(Handle, u32), Refusal>
     ensures { result ≡ with_count count made }
 {
     let handle = made?;

@@ -1,9 +1,8 @@
 -- The object of the handle is read.
 use Rattle.segment_manager.proofs.Common.{sym, subst, true, current, ByHandle, is_object_at, SaysOf, AnswersWith}
-use Rattle.segment_manager.proofs.{directory.HeapCalls.denotes-heap, objects.OwnEntries.has-own_object}
-use Rattle.segment_manager.proofs.{objects.KeyCalls.key-says}
-use Rattle.segment_manager.proofs.{objects.KeyCalls.handle-answers}
 use Rattle.segment_manager.proofs.objects.instance_info.instance_here.Goals as goal
+use Rattle.segment_manager.proofs.{directory.HeapCalls.denotes-heap, objects.OwnEntries.has-own_object}
+use Rattle.segment_manager.proofs.objects.KeyCalls.{key-says, handle-answers}
 
 pub read_instance-requires-clause-heap : goal.read_instance-requires-clause-heap
 read_instance-requires-clause-heap c =

@@ -1,6 +1,5 @@
 -- The code in the head is the kind's, and then the other parts of the head are the object's; or the kinds differ.
-use Rattle.segment_manager.proofs.Common.{◌≡◌, sym, ap, ◌∙◌, ◌+◌, ◌/◌, ◌%◌, ℕ, arith, bytes_of, word_at}
-use Rattle.segment_manager.proofs.Common.{refl, List}
+use Rattle.segment_manager.proofs.Common.{◌≡◌, sym, ap, ◌∙◌, ◌+◌, ◌/◌, ◌%◌, ℕ, arith, bytes_of, word_at, refl, List}
 use Rattle.segment_manager.proofs.objects.Standings.{head-words, one-kind, standing-room, standing-short}
 use Rattle.segment_manager.proofs.objects.object_ref.read_of_kind.Goals as goal
 

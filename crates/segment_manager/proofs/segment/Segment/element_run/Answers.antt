@@ -1,7 +1,6 @@
 -- The run of the object that is found is the key's.
-use Rattle.segment_manager.proofs.Common.{exit-is}
-use Rattle.segment_manager.proofs.containers.ElementRuns.{no-run, run-by_key}
 use Rattle.segment_manager.proofs.segment.Segment.element_run.Goals as goal
+use Rattle.segment_manager.proofs.{Common.exit-is, containers.ElementRuns.no-run, containers.ElementRuns.run-by_key}
 
 pub returns-in_err-object-clause-run : goal.returns-in_err-object-clause-run
 returns-in_err-object-clause-run g c = rw (exit-is c.from_residual.result _ c.from_residual.ensures.1)

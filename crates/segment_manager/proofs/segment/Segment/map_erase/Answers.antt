@@ -1,30 +1,19 @@
 -- The key is erased from the map that is found. The segment ends as the bound map leaves it.
-use Rattle.segment_manager.proofs.Common.{◌≡◌, refl, rules, subst, sym, Map, Ok, Remove, SegmentState, TakesStepOfKind}
-use Rattle.segment_manager.proofs.Common.{exit-is, OnErr, literal_of, truth_answer, Refused, UnchangedWhere}
-use Rattle.segment_manager.proofs.bound.ByKey.{keeps, takes}
+use Rattle.segment_manager.proofs.Common.{◌≡◌, refl, rules, subst, Map, Remove, SegmentState, UnchangedWhere}
+use Rattle.segment_manager.proofs.{Common.literal_of}
+use Rattle.segment_manager.proofs.bound.ByKey.{keeps, not-bound, steps}
 use Rattle.segment_manager.proofs.segment.Segment.map_erase.Goals as goal
 use Rattle.segment_manager.specs.Keeping.{LacksPair}
 
 pub returns-in_err-self-clause-step : goal.returns-in_err-self-clause-step
-returns-in_err-self-clause-step g c = rw (exit-is c.from_residual.result _ c.from_residual.ensures.1) (subst
-    (λ (u : SegmentState). TakesStepOfKind c.args.self.now u (g.O.ObjectRef.key c.args.key.now) (Map g.K.Scalar.kind
-    g.V.Scalar.kind) (Remove (g.O.ObjectRef.key c.args.key.now) (literal_of g.K.Scalar.kind (g.K.Scalar.whole
-    c.args.at)))
-    (Refused c.in_err-self.field-0.0)) (sym (subst (λ r. OnErr r (c.of.follows.lender-at-none ≡ c.args.self.now))
-    c.in_err-self.was
-    c.of.follows.holds-at-none))
-    (c.in_err-self.ensures.location.refused (Remove (g.O.ObjectRef.key c.args.key.now) (literal_of g.K.Scalar.kind
-    (g.K.Scalar.whole c.args.at))) refl))
+returns-in_err-self-clause-step g c = not-bound _ (Remove (g.O.ObjectRef.key c.args.key.now) (literal_of g.K.Scalar.kind
+    (g.K.Scalar.whole c.args.at))) _ refl c.from_residual.ensures.1 c.in_err-self.ensures.location c.in_err-self.was
+    c.of.follows.holds-at-none
 
 pub returns-clause-step : goal.returns-clause-step
 returns-clause-step g c = let e : c.erase.new.self.segment.now ≡ c.self-2-1.given.0 = search rules in
-    subst (λ (u : SegmentState). TakesStepOfKind c.args.self.now u (g.O.ObjectRef.key c.args.key.now) (Map
-    g.K.Scalar.kind g.V.Scalar.kind)
-    (Remove (g.O.ObjectRef.key c.args.key.now) (literal_of g.K.Scalar.kind (g.K.Scalar.whole c.args.at))) (truth_answer
-    (Ok c.erase.result))) e
-    (takes c.in_ok-self.ensures.segment c.in_ok-self.ensures.location _ (Map g.K.Scalar.kind g.V.Scalar.kind)
-    (Remove (g.O.ObjectRef.key c.args.key.now) (literal_of g.K.Scalar.kind (g.K.Scalar.whole c.args.at)))
-    c.erase.ensures.step)
+    steps c.in_ok-self.ensures.segment c.in_ok-self.ensures.location e (Map g.K.Scalar.kind g.V.Scalar.kind) (Remove
+    (g.O.ObjectRef.key c.args.key.now) (literal_of g.K.Scalar.kind (g.K.Scalar.whole c.args.at))) c.erase.ensures.step
 
 pub returns-clause-absent : goal.returns-clause-absent
 returns-clause-absent g c = let e : c.erase.new.self.segment.now ≡ c.self-2-1.given.0 = search rules in

@@ -1,21 +1,15 @@
 -- The pair is put into the map that is found. The segment ends as the bound map leaves it.
-use Rattle.segment_manager.proofs.Common.{◌≡◌, refl, rules, subst, sym, Map, Put, SegmentState, TakesStepOfKind}
-use Rattle.segment_manager.proofs.Common.{exit-is, OnErr, literal_of, truth_answer, Refused}
-use Rattle.segment_manager.proofs.bound.ByKey.{overwrites, takes}
+use Rattle.segment_manager.proofs.Common.{◌≡◌, refl, rules, subst, sym, Map, Put, SegmentState}
+use Rattle.segment_manager.proofs.Common.{OnErr, literal_of}
+use Rattle.segment_manager.proofs.bound.ByKey.{not-bound, overwrites, steps}
 use Rattle.segment_manager.proofs.segment.Segment.map_put.Goals as goal
 use Rattle.segment_manager.specs.Keeping.{ChangesValue}
 
 pub returns-in_err-self-clause-step : goal.returns-in_err-self-clause-step
-returns-in_err-self-clause-step g c = rw (exit-is c.from_residual.result _ c.from_residual.ensures.1) (subst
-    (λ (u : SegmentState). TakesStepOfKind c.args.self.now u (g.O.ObjectRef.key c.args.key.now) (Map g.K.Scalar.kind
-    g.V.Scalar.kind) (Put (g.O.ObjectRef.key c.args.key.now) (literal_of g.K.Scalar.kind (g.K.Scalar.whole c.args.at))
-    (literal_of g.V.Scalar.kind (g.V.Scalar.whole c.args.value)))
-    (Refused c.in_err-self.field-0.0)) (sym (subst (λ r. OnErr r (c.of.follows.lender-at-none ≡ c.args.self.now))
-    c.in_err-self.was
-    c.of.follows.holds-at-none))
-    (c.in_err-self.ensures.location.refused (Put (g.O.ObjectRef.key c.args.key.now) (literal_of g.K.Scalar.kind
-    (g.K.Scalar.whole c.args.at))
-    (literal_of g.V.Scalar.kind (g.V.Scalar.whole c.args.value))) refl))
+returns-in_err-self-clause-step g c = not-bound _ (Put (g.O.ObjectRef.key c.args.key.now)
+    (literal_of g.K.Scalar.kind (g.K.Scalar.whole c.args.at)) (literal_of g.V.Scalar.kind
+    (g.V.Scalar.whole c.args.value))) _ refl c.from_residual.ensures.1 c.in_err-self.ensures.location c.in_err-self.was
+    c.of.follows.holds-at-none
 
 pub returns-in_err-self-clause-overwrite : goal.returns-in_err-self-clause-overwrite
 returns-in_err-self-clause-overwrite g c = subst (λ (u : SegmentState). ChangesValue c.args.self.now u
@@ -25,13 +19,9 @@ returns-in_err-self-clause-overwrite g c = subst (λ (u : SegmentState). Changes
 
 pub returns-clause-step : goal.returns-clause-step
 returns-clause-step g c = let e : c.insert.new.self.segment.now ≡ c.self-2-1.given.0 = search rules in
-    subst (λ (u : SegmentState). TakesStepOfKind c.args.self.now u (g.O.ObjectRef.key c.args.key.now) (Map
-    g.K.Scalar.kind g.V.Scalar.kind)
+    steps c.in_ok-self.ensures.segment c.in_ok-self.ensures.location e (Map g.K.Scalar.kind g.V.Scalar.kind)
     (Put (g.O.ObjectRef.key c.args.key.now) (literal_of g.K.Scalar.kind (g.K.Scalar.whole c.args.at))
-    (literal_of g.V.Scalar.kind (g.V.Scalar.whole c.args.value))) (truth_answer c.insert.result)) e
-    (takes c.in_ok-self.ensures.segment c.in_ok-self.ensures.location _ (Map g.K.Scalar.kind g.V.Scalar.kind)
-    (Put (g.O.ObjectRef.key c.args.key.now) (literal_of g.K.Scalar.kind (g.K.Scalar.whole c.args.at))
-    (literal_of g.V.Scalar.kind (g.V.Scalar.whole c.args.value))) c.insert.ensures.step)
+    (literal_of g.V.Scalar.kind (g.V.Scalar.whole c.args.value))) c.insert.ensures.step
 
 pub returns-clause-overwrite : goal.returns-clause-overwrite
 returns-clause-overwrite g c = let e : c.insert.new.self.segment.now ≡ c.self-2-1.given.0 = search rules in

@@ -3,12 +3,11 @@ use Rattle.segment_manager.proofs.segment.Segment.write_range.Goals as goal
 use Rattle.segment_manager.proofs.Common.{exit-is, ◌≡◌, rules, sym, ◌∙◌, ℕ, ℤ, List, map, Answer, Key, ByHandle}
 use Rattle.segment_manager.proofs.Common.{IsLocated, Located, ScalarKind, SegmentState, Refused, WrongKind, Vector}
 use Rattle.segment_manager.proofs.Common.{Scalar, ap, false, is_read_only}
-use Rattle.segment_manager.proofs.bound.ByKey.{of-change}
+use Rattle.segment_manager.proofs.containers.RangeCalls.{other-kind, range-by_key, range-reading, range-stays}
+use Rattle.segment_manager.proofs.{bound.ByKey.of-change, objects.Locating.located-here}
+use Rattle.segment_manager.proofs.containers.RangeCalls.{why-missing}
 use Rattle.segment_manager.specs.containers.Ranges.{WritesRange}
 use Rattle.best_fit.proofs.Laws.{gaps-refl}
-use Rattle.segment_manager.proofs.objects.Locating.{located-here}
-use Rattle.segment_manager.proofs.containers.RangeCalls.{other-kind, range-by_key}
-use Rattle.segment_manager.proofs.containers.RangeCalls.{range-reading, range-stays, why-missing}
 
 pub returns-then-is_read_only-clause-step : goal.returns-then-is_read_only-clause-step
 returns-then-is_read_only-clause-step g c =

@@ -1,10 +1,9 @@
 -- The nodes of the pairs are listed from the map.
 use Rattle.segment_manager.proofs.Common.{◌∙◌}
-use Rattle.segment_manager.proofs.bound.Places.{container-bound}
-use Rattle.segment_manager.proofs.containers.{MapAnswers.node-count-there, MapAnswers.nodes-there}
-use Rattle.segment_manager.proofs.containers.{MapAnswers.some-there, ScalarTypes.of-map}
-use Rattle.segment_manager.specs.objects.BoundObjects.{key_of}
+use Rattle.segment_manager.proofs.containers.MapAnswers.{node-count-there, nodes-there, some-there}
 use Rattle.segment_manager.proofs.bound.maps.Bound+Pairs+K+V.nodes_from.Goals as goal
+use Rattle.segment_manager.proofs.{bound.Places.container-bound, containers.ScalarTypes.of-map}
+use Rattle.segment_manager.specs.objects.BoundObjects.{key_of}
 
 pub nodes_from-requires : goal.nodes_from-requires
 nodes_from-requires g c = some-there (of-map g.met.K.Scalar) (of-map g.met.V.Scalar) c.segment.view_is (key_of

@@ -1,11 +1,10 @@
 -- The pairs are read from the map.
 use Rattle.segment_manager.proofs.Common.{◌∙◌}
-use Rattle.std.proofs.Common.{length, min}
-use Rattle.segment_manager.proofs.bound.Places.{container-bound}
-use Rattle.segment_manager.proofs.containers.{MapAnswers.count-there, MapAnswers.list-there, MapAnswers.some-there}
-use Rattle.segment_manager.proofs.containers.{ScalarTypes.of-map}
-use Rattle.segment_manager.specs.objects.BoundObjects.{key_of}
+use Rattle.segment_manager.proofs.containers.MapAnswers.{count-there, list-there, some-there}
 use Rattle.segment_manager.proofs.bound.maps.Bound+Pairs+K+V.read_from.Goals as goal
+use Rattle.std.proofs.Common.{length, min}
+use Rattle.segment_manager.proofs.{bound.Places.container-bound, containers.ScalarTypes.of-map}
+use Rattle.segment_manager.specs.objects.BoundObjects.{key_of}
 
 pub read_from-requires : goal.read_from-requires
 read_from-requires g c = some-there (of-map g.met.K.Scalar) (of-map g.met.V.Scalar) c.segment.view_is (key_of

@@ -1,11 +1,10 @@
 -- The bytes that spell the value are written at the place.
 use Rattle.segment_manager.proofs.Common.{exit-is, refl, sym, ap, ◌∙◌, length, List, ℕ, Key, Set, literal_of}
-use Rattle.segment_manager.proofs.{blocks.Blocks.spelling-length, bound.Changes.leaves-bound}
-use Rattle.segment_manager.proofs.objects.Stored.{place-room, places-bound}
 use Rattle.segment_manager.proofs.objects.Written.{changes-element, stores-nothing, stores-number}
-use Rattle.segment_manager.proofs.bound.SliceCalls.{past-error}
-use Rattle.segment_manager.specs.objects.BoundObjects.{key_of}
 use Rattle.segment_manager.proofs.bound.slices.BoundMut+Slice+T+Fixed.set.Goals as goal
+use Rattle.segment_manager.proofs.{blocks.Blocks.spelling-length, bound.Changes.leaves-bound}
+use Rattle.segment_manager.proofs.{objects.Stored.place-room, objects.Stored.places-bound, bound.SliceCalls.past-error}
+use Rattle.segment_manager.specs.objects.BoundObjects.{key_of}
 
 pub write-requires-2 : goal.write-requires-2
 write-requires-2 g c = place-room (key_of c.args.self.now.object) g.T.Scalar.kind c.args.index c.segment.view_is

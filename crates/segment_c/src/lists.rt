@@ -5,7 +5,7 @@ ghost use Rattle.best_fit.specs.Extents.{spans};
 ghost use Rattle.seg_types.specs.Commands.{NumNamed, NumUnique};
 ghost use Rattle.seg_types.specs.Keys.{key_seen};
 ghost use Rattle.seg_types.specs.Kinds.{class_code};
-ghost use Rattle.segment_c.specs.Handles.{AsksHandle, ReadsHandle};
+ghost use Rattle.segment_c.specs.Handles.{AsksFor, AsksHandle, ReadsHandle};
 ghost use Rattle.segment_c.specs.Codes.{answer_for};
 ghost use Rattle.segment_c.specs.Lists.{IsInfo, WritesInfo, TellsAlone, TellsBlock, WritesInfoOf, use_code};
 ghost use Rattle.segment_c.specs.Passed.{key_of, key_wrong};
@@ -120,23 +120,6 @@ fn tell_unique(segment: &Segment, index: u64, info: &mut Info) -> u32
     DONE
 }
 
-/// Returns the block or gap with `index` others before it.
-fn tell_tile(segment: &Segment, index: u64, block: &mut CBlock) -> u32
-    ensures read { (d : Directory) → DenotesCurrent segment.now.cut.bytes d
-        → TellsBlock block.new result (slice_get (spans (live d)) index) }
-    ensures unchanged_on_error { 1 ≤ result → block.new ≡ block.old }
-{
-    let Some(span) = segment.tile(index) else {
-        return OUT_OF_RANGE;
-    };
-    *block = CBlock {
-        offset: span.offset,
-        len: span.len,
-        use_of: use_code(span.use_of),
-    };
-    DONE
-}
-
 /// Returns the code of how an object is found again.
 fn class_code(class: Class) -> u32
     ensures { result ≡ class_code class }
@@ -244,15 +227,21 @@ pub extern "C" fn zx_tile_at(
     ensures outputs_on_error { 1 ≤ result → block.new ≡ block.old }
 {
     let segment = passed!(take(alloc, h));
-    put(tell_tile(&segment, index, block), h, segment)
+    let Some(span) = segment.tile(index) else {
+        return put(OUT_OF_RANGE, h, segment);
+    };
+    *block = CBlock {
+        offset: span.offset,
+        len: span.len,
+        use_of: use_code(span.use_of),
+    };
+    put(DONE, h, segment)
 }
 
 /// Returns the number of objects with names.
 #[unsafe(no_mangle)]
 pub extern "C" fn zx_num_named(alloc: Global, h: &mut SegmentSlot, count: &mut u64) -> u32
-    ensures call { AsksHandle 0 result h.old h.new (λ s t.
-        AnswersQuery s NumNamed (answer_for result (Number count.new))) }
-    ensures outputs_on_error { 1 ≤ result → count.new ≡ count.old }
+    ensures call { AsksFor Number NumNamed result h.old h.new count.old count.new }
 {
     let segment = passed!(take(alloc, h));
     *count = segment.num_named();
@@ -262,9 +251,7 @@ pub extern "C" fn zx_num_named(alloc: Global, h: &mut SegmentSlot, count: &mut u
 /// Returns the number of kinds with a unique object.
 #[unsafe(no_mangle)]
 pub extern "C" fn zx_num_unique(alloc: Global, h: &mut SegmentSlot, count: &mut u64) -> u32
-    ensures call { AsksHandle 0 result h.old h.new (λ s t.
-        AnswersQuery s NumUnique (answer_for result (Number count.new))) }
-    ensures outputs_on_error { 1 ≤ result → count.new ≡ count.old }
+    ensures call { AsksFor Number NumUnique result h.old h.new count.old count.new }
 {
     let segment = passed!(take(alloc, h));
     *count = segment.num_unique();

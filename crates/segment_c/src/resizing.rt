@@ -45,20 +45,11 @@ pub extern "C" fn zx_shrink(alloc: Global, h: &mut SegmentSlot) -> u32
     ensures marks { RaisesMoves result h.old.marks h.new.marks }
 {
     let mut segment = passed!(take(alloc, h));
-    put_changed(shrink(&mut segment), h, segment)
-}
-
-/// Makes a segment as short as its last block lets it be.
-fn shrink(segment: &mut Segment) -> u32
-    ensures code { (d : Directory) → DenotesCurrent segment.old.cut.bytes d
-        → result ≡ size_code (shrink_refusal segment.old.mode) }
-    ensures shrinking { result ≡ 0 → Resizes segment.old segment.new (λ d. shrunk d) }
-    ensures unchanged_on_error { 1 ≤ result → segment.new ≡ segment.old }
-{
-    match grow_shrink::shrink_to_fit(segment) {
+    let code = match grow_shrink::shrink_to_fit(&mut segment) {
         Ok(()) => DONE,
         Err(why) => code_of_growth(why),
-    }
+    };
+    put_changed(code, h, segment)
 }
 
 /// Returns the code by which a segment does not become longer or shorter.

@@ -10,11 +10,11 @@ use Rattle.segment_manager.specs.objects.BoundObjects.{key_of}
 use Rattle.segment_manager.proofs.{CommandLaws.looks-up-key, ElementLaws.literal-read}
 
 -- the call passes its own number on
-pub returns-in-Ok : goal.returns-in-Ok
-returns-in-Ok c =
+pub returns : goal.returns
+returns c =
     let same = to_z-of_z w64 c.args.at c.ranges.at in
     let value : is_value I64 c.args.at ≡ true = subst (λ (z : ℤ). is_value I64 z ≡ true) same c.holds_value.ensures in
-    looks-up-key c.in-Ok.ensures.location c.in-Ok.ensures.kind (Integer c.args.at) (Number c.args.at)
+    looks-up-key c.requires.location c.requires.kind (Integer c.args.at) (Number c.args.at)
     (refl, literal-read I64 c.args.at value, value)
-    (subst (λ (z : ℤ). AnswersQueryOfKind c.args.segment.now (key_of c.in-Ok.object) (Map I64 I64)
-    (Lookup (key_of c.in-Ok.object) (Integer z)) (any_or_absent c.number_in.result)) same c.number_in.ensures)
+    (subst (λ (z : ℤ). AnswersQueryOfKind c.args.segment.now (key_of c.args.object) (Map I64 I64)
+    (Lookup (key_of c.args.object) (Integer z)) (any_or_absent c.number_in.result)) same c.number_in.ensures)

@@ -105,7 +105,7 @@ pub extern "C" fn zx_push(
 }
 
 /// Puts a number after the last element of the vector of a handle, which can be any number, as `zx_push` does. It packs
-/// no key and no value. It is not inlined, and what it calls within the capacity is, since only one function makes those
+/// no key and no value. It is not inlined, and what it calls within the capacity is: only one function makes those
 /// calls.
 #[inline(never)]
 #[unsafe(no_mangle)]
@@ -123,8 +123,8 @@ pub extern "C" fn zx_push_i64(alloc: Global, h: &mut SegmentSlot, handle: u64, n
     push_any(alloc, h, &ObjectKey::of_handle(handle), &value)
 }
 
-/// Puts a number after the last element of the vector of a handle, and returns true, if the handle is remembered and the
-/// vector is of `i64` with room. Otherwise nothing changes.
+/// Puts a number after the last element of the vector of a handle, and returns true, if the handle is remembered and
+/// the vector is of `i64` with room. Otherwise nothing changes.
 #[inline(always)]
 fn push_here(segment: &mut Segment, handle: Handle, number: i64) -> bool
     ensures step { result ≡ true → TakesStep segment.old segment.new (Push (ByHandle handle) (Integer number)) Done }

@@ -11,7 +11,7 @@ ghost use Rattle.seg_map.specs.{Linking.HasKeyTree, PairNodes.is_pair_node, Plac
 
 use crate::maps::SegMap;
 use crate::nodes::{NodeSet, PairTree};
-use crate::reading::{KEY_OFFSET, KeyProbe, value_at};
+use crate::reading::{KEY_OFFSET, KeyProbe, pair_at, value_at};
 use best_fit::Heap;
 use link_tree::{
     SearchResult, find_entry, find_first_not_before, find_last, find_last_before, find_path_end,
@@ -224,9 +224,7 @@ fn read_found<K: Plain, V: Plain>(
     steps.add(found.steps);
     let node = found.node?;
     steps.add(1);
-    let key = value_at::<K>(heap, node, KEY_OFFSET)?;
-    let value = value_at::<V>(heap, node, KEY_OFFSET + K::SIZE)?;
-    Some((key, value))
+    pair_at(heap, node)
 }
 
 /// Returns the node that a search for a key found, if the node has this key.

@@ -34,6 +34,10 @@ pub use Rattle.segment_manager.proofs.objects.Locating.{same-object, step-by_key
 pub use Rattle.segment_manager.proofs.objects.Locating.{told-by_key}
 -- a located object is bound to its kind, and a call on it when it is bound is a call on it
 pub use Rattle.segment_manager.proofs.bound.ByKey.{binds, of-bound, of-change}
+-- a call on the bound object of a key is a call for the key, and without an object of the kind the call is refused
+pub use Rattle.segment_manager.proofs.bound.ByKey.{first-kept, from-to, lacks-replies, leads, not-bound, not-led}
+pub use Rattle.segment_manager.proofs.bound.ByKey.{replies, rests, steps}
+pub use Rattle.segment_manager.proofs.bound.SliceCalls.{key-extends, refused-extends, same-gaps}
 -- a command that only reads leaves the directory
 pub use Rattle.segment_manager.proofs.directory.Unchanged.{step-reads}
 -- an index that is less than the number that was answered is below

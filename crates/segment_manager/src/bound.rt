@@ -10,7 +10,7 @@ ghost use Rattle.segment_manager.specs.{State.AnswersWith, objects.Found.is_obje
 ghost use Rattle.segment_manager.specs.objects.Located.{IsLocated, IsObject};
 ghost use Rattle.segment_manager.specs.contracts.segment.Segment.{the_row};
 
-use crate::objects::object_ref::{Object, ObjectRef, locate, object_here};
+use crate::objects::object_ref::{Object, ObjectRef, read_of_kind};
 use crate::segment::Segment;
 use seg_types::{Handle, Kind, Refusal};
 use std::alloc::AllocError;
@@ -187,8 +187,10 @@ fn locate_of_kind<O: ObjectRef>(segment: &Segment, key: &O, kind: Kind) -> Resul
         (LacksKind segment.now (O.key key.now) kind) }
     ensures kind { IfOk result (λ o. o.kind ≡ kind) }
 {
-    let object = locate(segment, key)?;
-    of_kind(object, kind)
+    match key.find(segment) {
+        None => Err(Refusal::NotFound),
+        Some(handle) => read_of_kind(&segment.heap, handle, kind),
+    }
 }
 
 /// Returns the object with a handle, an object of a kind, without a look-up. `Bound::at` and `BoundMut::at` bind it.
@@ -209,7 +211,7 @@ pub fn object_of_kind(segment: &Segment, handle: Handle, kind: Kind) -> Result<O
         (LacksKind segment.now (ByHandle handle) kind) }
     ensures kind { IfOk result (λ o. o.kind ≡ kind) }
 {
-    of_kind(object_here(segment, handle), kind)
+    read_of_kind(&segment.heap, handle, kind)
 }
 
 /// Returns the object if it has the kind.

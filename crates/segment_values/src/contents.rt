@@ -1,24 +1,18 @@
 //! Writes the contents of an object: its elements, one after another, in any layout.
-ghost use Rattle.std.specs.Prelude.{◌≡◌, ◌-◌, ◌^◌, ◌<◌, option_map, true};
+ghost use Rattle.std.specs.Prelude.{◌≡◌, ◌-◌, ◌^◌, ◌<◌};
+ghost use Rattle.seg_types.specs.{Names.ByHandle, declared.kinds.ScalarKind.ScalarKind as AnyScalarKind};
 ghost use Rattle.seg_types.specs.declared.kinds.Kind.TheVariants.{Map as MapOf};
-ghost use Rattle.seg_types.specs.declared.kinds.ScalarKind.{ScalarKind as AnyScalarKind};
-ghost use Rattle.seg_types.specs.Names.{ByHandle};
-ghost use Rattle.seg_types.specs.Values.{kind_of_scalar, value_of_scalar};
+ghost use Rattle.segment_manager.specs.{Parts.parts_until, State.AnswersWith, State.DenotesCurrent};
 ghost use Rattle.segment_manager.specs.containers.Contents.{sizes_at};
-ghost use Rattle.segment_manager.specs.containers.Maps.{pair_above};
-ghost use Rattle.segment_manager.specs.containers.Walks.{IsMap, item_of_kinds, item_seen, pairs_at};
-ghost use Rattle.segment_manager.specs.objects.Located.{IsLocated, IsObject};
-ghost use Rattle.segment_manager.specs.State.{AnswersWith, DenotesCurrent};
-ghost use Rattle.segment_manager.specs.Parts.{parts_until};
-ghost use Rattle.segment_values.specs.Asked.{length_in, pair_part};
+ghost use Rattle.segment_manager.specs.objects.{BoundObjects.IsBound, Located.IsLocated, Located.IsObject};
+ghost use Rattle.segment_values.specs.{Asked.length_in, Asked.pair_part, Writing.WritesFor};
 ghost use Rattle.segment_values.specs.Layouts.{count_at, laid_at, part_at};
-ghost use Rattle.segment_values.specs.Writing.{WritesFor};
 
 use crate::elements::get_element;
 use crate::layouts::Layout;
-use crate::walking::{least, pair_of_kinds};
+use crate::walking::{least, pair_past};
 use raw_region::{DeviceFault, Sink};
-use seg_types::{Kind, ScalarKind, ScalarValue};
+use seg_types::{Kind, ScalarKind};
 use segment_manager::unchecked::measure_object;
 use segment_manager::{Object, Segment, StringRef, Strings};
 
@@ -123,38 +117,18 @@ fn put_pairs<L: Layout, W: Sink>(
     out: &mut W,
 ) -> Result<(), DeviceFault>
     requires writer { (W.history out.old).failures < 2 ^ 64 - 1 }
-    requires object { IsObject object segment.now }
-    requires map { IsMap segment.now (ByHandle object.handle) keys values }
+    requires object { IsBound (MapOf keys values) object segment.now }
     ensures { WritesFor (W.history out.old) (W.history out.new) result (DenotesCurrent segment.now.cut.bytes) (λ d.
         parts_until (pair_part (L.spelling layout.now) keys values d (ByHandle object.handle)) count) }
 {
-    let mut next = pair_of_kinds(segment, object, least(keys), false, values);
+    let mut bound = least(keys);
+    let mut above = false;
     'pairs: for index in 0..count {
-        if let Some((key, value)) = next {
+        if let Some((key, value)) = pair_past(segment, object, bound, above, values) {
             layout.put_pair(index, key, value, out)?;
-            next = pair_behind(segment, object, key, values, index + 1 < count);
+            bound = key;
+            above = true;
         }
     }
     Ok(())
-}
-
-/// Returns the pair after a key of a map, if `more` is true and there is one.
-fn pair_behind(
-    segment: &Segment,
-    object: Object,
-    key: ScalarValue,
-    values: ScalarKind,
-    more: bool,
-) -> Option<(ScalarValue, ScalarValue)>
-    requires object { IsObject object segment.now }
-    requires map { IsMap segment.now (ByHandle object.handle) (kind_of_scalar key) values }
-    ensures { more ≡ true → AnswersWith segment.now (λ d.
-        option_map (item_of_kinds (kind_of_scalar key) values)
-        (pair_above (value_of_scalar key) (pairs_at d (ByHandle object.handle)))) (option_map item_seen result) }
-{
-    if more {
-        pair_of_kinds(segment, object, key, true, values)
-    } else {
-        None
-    }
 }

@@ -13,9 +13,10 @@ ghost use Rattle.segment_manager.specs.State.{AnswersQuery, AnswersQueryOfKind, 
 ghost use Rattle.segment_manager.specs.State.{truth_answer};
 ghost use Rattle.segment_values.specs.Absent.{LacksLiteral};
 
+use crate::by_pair::by_pair;
 use crate::objects::object_to_change;
 use seg_types::{
-    Key, Kind, Refusal, Scalar, ScalarKind, ScalarValue, WrittenValue, by_kind, by_value, pair_of,
+    Key, Kind, Refusal, Scalar, ScalarKind, ScalarValue, WrittenValue, by_value, pair_of,
 };
 use segment_manager::{Map, MapMut, Object, Segment, locate};
 
@@ -59,6 +60,7 @@ pub fn put_pair<A: WrittenValue, B: WrittenValue>(
 /// # Errors
 ///
 /// `NoSpace` if `at` is new and no gap is long enough for its block. Nothing changes.
+#[inline(always)]
 pub fn insert_pair(
     segment: &mut Segment,
     object: Object,
@@ -77,7 +79,8 @@ pub fn insert_pair(
     by_value!(at, at => insert_by_key(segment, object, at, value))
 }
 
-/// Sets the value of the map key `at`, for map keys of a type, and returns true if `at` is new.
+/// Sets the value of the map key `at`, for map keys of a type, and returns true if `at` is new. It is inlined, so the
+/// kind of the map key is matched on once.
 #[inline(always)]
 fn insert_by_key<K: Scalar>(
     segment: &mut Segment,
@@ -123,8 +126,14 @@ pub fn look_up<L: WrittenValue>(
     }
 }
 
-/// Returns the value of the map key `at` in a map of its kind and the kind `values`, or `None` if the map lacks it.
-fn look_up_scalar(
+/// Returns the value of the map key `at` in a located map of its kind and the kind `values`, or `None` if the map lacks
+/// it.
+///
+/// # Conditions
+///
+/// The object is there and has the kind.
+#[inline(always)]
+pub fn look_up_scalar(
     segment: &Segment,
     object: Object,
     at: ScalarValue,
@@ -134,30 +143,14 @@ fn look_up_scalar(
     ensures { AnswersQueryOfKind segment.now (ByHandle object.handle) (MapOf (kind_of_scalar at) values)
         (Lookup (ByHandle object.handle) (literal_seen at)) (any_value_answer (Ok result)) }
 {
-    by_value!(at, at => look_up_by_key(segment, object, at, values))
-}
-
-/// Returns the value of the map key `at`, for map keys of a type, or `None` if the map lacks it. It is inlined, as are
-/// the two calls like it, so the kind of the map key is matched on once.
-#[inline(always)]
-fn look_up_by_key<K: Scalar>(
-    segment: &Segment,
-    object: Object,
-    at: K,
-    values: ScalarKind,
-) -> Option<ScalarValue>
-    requires { IsBound (MapOf K.kind values) object segment.now }
-    ensures { AnswersQueryOfKind segment.now (ByHandle object.handle) (MapOf K.kind values)
-        (Lookup (ByHandle object.handle) (literal_of K.kind (K.whole at))) (any_value_answer (Ok result)) }
-{
     macro_rules! found {
-        ($type:ty, $kind:ident) => {
-            Map::<K, $type>::at(segment, object)
-                .get(at)
+        ($at:ident, $type:ty, $kind:ident) => {
+            Map::<_, $type>::at(segment, object)
+                .get($at)
                 .map(ScalarValue::$kind)
         };
     }
-    by_kind!(values, found)
+    by_pair!(at, values, found)
 }
 
 /// Erases a map key from a map, and returns true if the map had it. If not, nothing changes.
@@ -199,22 +192,10 @@ fn erase_scalar(segment: &mut Segment, object: Object, at: ScalarValue, values: 
     ensures absent { UnchangedWhere segment.old segment.new
         (LacksPair (ByHandle object.handle) (value_of_scalar at)) }
 {
-    by_value!(at, at => erase_by_key(segment, object, at, values))
-}
-
-/// Erases the map key `at`, for map keys of a type, and returns true if the map had it.
-#[inline(always)]
-fn erase_by_key<K: Scalar>(segment: &mut Segment, object: Object, at: K, values: ScalarKind) -> bool
-    requires object { IsBound (MapOf K.kind values) object segment.old }
-    requires writing { is_read_only segment.old.mode ≡ false }
-    ensures step { TakesStepOfKind segment.old segment.new (ByHandle object.handle) (MapOf K.kind values)
-        (Remove (ByHandle object.handle) (literal_of K.kind (K.whole at))) (truth_answer (Ok result)) }
-    ensures absent { UnchangedWhere segment.old segment.new (LacksPair (ByHandle object.handle) (K.whole at)) }
-{
     macro_rules! erased {
-        ($type:ty, $kind:ident) => {
-            MapMut::<K, $type>::at(segment, object).erase(at)
+        ($at:ident, $type:ty, $kind:ident) => {
+            MapMut::<_, $type>::at(segment, object).erase($at)
         };
     }
-    by_kind!(values, erased)
+    by_pair!(at, values, erased)
 }

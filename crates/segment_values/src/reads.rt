@@ -10,35 +10,20 @@ ghost use Rattle.segment_values.specs.Ranges.{AreSpelled, HasSlice, is_slice, ra
 use seg_types::theorems::scalar_is_number;
 use seg_types::{Kind, Refusal, Scalar};
 use segment_manager::unchecked::element_run_of;
-use segment_manager::{ElementRun, Object, ObjectRef, Segment, locate};
+use segment_manager::{ElementRun, Object, Segment};
 
-/// Copies elements of an object into a row: as many as the row has, from `first` on. The object is an array or a vector
-/// of scalars of the type.
-///
-/// # Errors
-///
-/// `NotFound` if no object has the key, `WrongKind` if it has another kind, `OutOfRange` if it has too few elements
-/// from `first` on. The row is unchanged.
-pub fn read_elements<T: Scalar, O: ObjectRef>(
-    segment: &Segment,
-    key: &O,
-    first: u64,
-    series: &mut [T],
-) -> Result<(), Refusal>
-    ensures read { AnswersWith segment.now (λ d. range_at d (O.key key.now) T.kind first (length series.old))
-        (read_into T.whole series.new result) }
-    ensures unchanged { OnErr result (series.new ≡ series.old) }
-{
-    let object = locate(segment, key)?;
-    read_object(segment, object, first, series)
-}
-
-/// Copies elements of a located object into a row, as `read_elements` does.
+/// Copies elements of a located object into a row: as many as the row has, from `first` on. The object is an array or a
+/// vector of scalars of the type.
 ///
 /// # Conditions
 ///
 /// The object is there.
-pub fn read_object<T: Scalar>(
+///
+/// # Errors
+///
+/// `WrongKind` if the object has another kind, `OutOfRange` if it has too few elements from `first` on. The row is
+/// unchanged.
+pub fn read_elements<T: Scalar>(
     segment: &Segment,
     object: Object,
     first: u64,

@@ -12,7 +12,7 @@ ghost use Rattle.segment_values.specs.Changes.{command_at};
 
 use crate::objects::object_to_change;
 use seg_types::{Key, Kind, Refusal, ScalarKind, ScalarValue, WrittenValue, by_kind, by_value};
-use segment_manager::{Object, ObjectRef, Segment, StringsMut, VectorMut};
+use segment_manager::{Object, Segment, StringsMut, VectorMut};
 
 /// The position of a new element in a vector.
 #[derive(Clone, Copy)]
@@ -59,28 +59,6 @@ pub fn add<L: WrittenValue>(
             None => Err(Refusal::WrongKind),
         },
         _ => Err(Refusal::WrongKind),
-    }
-}
-
-/// Inserts a scalar into a vector of the scalar's kind.
-///
-/// # Errors
-///
-/// The errors of `add` apply; a value of another kind than the elements is `WrongKind`. Nothing changes.
-#[inline(always)]
-pub fn add_scalar<O: ObjectRef>(
-    segment: &mut Segment,
-    key: &O,
-    spot: InsertSpot,
-    value: ScalarValue,
-) -> Result<(), Refusal>
-    ensures step { TakesStepOfKind segment.old segment.new (O.key key.now) (VectorOf (kind_of_scalar value))
-        (command_at spot (O.key key.now) (literal_seen value)) (done_answer result) }
-    ensures refused { OnErr result (segment.new ≡ segment.old) }
-{
-    match spot {
-        InsertSpot::End => by_value!(value, it => segment.vec_push(key, it)),
-        InsertSpot::Before(index) => by_value!(value, it => segment.vec_insert(key, index, it)),
     }
 }
 

@@ -1,71 +1,53 @@
 //! Reads the pairs of maps, by rising map keys.
-ghost use Rattle.std.specs.Prelude.{◌≡◌, option_map};
-ghost use Rattle.seg_types.specs.Kinds.{lowest};
-ghost use Rattle.seg_types.specs.Names.{ByHandle};
-ghost use Rattle.seg_types.specs.Values.{kind_of_scalar, value_of_scalar};
+ghost use Rattle.std.specs.Prelude.{◌≡◌, IfSome, option_map};
+ghost use Rattle.seg_types.specs.{Kinds.lowest, Names.ByHandle, Values.kind_of_scalar, Values.value_of_scalar};
+ghost use Rattle.seg_types.specs.declared.kinds.Kind.TheVariants.{Map as MapOf};
 ghost use Rattle.seg_map.specs.Places.{item_of};
 ghost use Rattle.segment_manager.specs.containers.Maps.{numbers_in, pair_above};
-ghost use Rattle.segment_manager.specs.containers.Walks.{IsMap, first_of, item_of_kinds, item_seen, pair_past};
-ghost use Rattle.segment_manager.specs.containers.Walks.{pairs_at};
-ghost use Rattle.segment_manager.specs.{State.AnswersWith, objects.Located.IsObject};
+ghost use Rattle.segment_manager.specs.containers.Walks.{first_of, item_of_kinds, item_seen, pair_past, pairs_at};
+ghost use Rattle.segment_manager.specs.{State.AnswersWith, objects.BoundObjects.IsBound};
 
-use seg_types::{Scalar, ScalarKind, ScalarValue, by_kind, by_value};
-use segment_manager::{Map, Object, ObjectRef, Segment, locate};
+use crate::by_pair::by_pair;
+use seg_types::{Scalar, ScalarKind, ScalarValue, by_kind};
+use segment_manager::{Map, Object, Segment};
 
-/// Returns the map's first pair, or `None` if the map is empty.
+/// Returns the first pair of a located map, or `None` if the map is empty.
 ///
 /// # Conditions
 ///
-/// The object is a map of these kinds.
-pub fn first_pair<O: ObjectRef>(
+/// The object is there, and is a map of these kinds.
+#[inline(always)]
+pub fn first_pair(
     segment: &Segment,
-    key: &O,
+    object: Object,
     keys: ScalarKind,
     values: ScalarKind,
 ) -> Option<(ScalarValue, ScalarValue)>
-    requires map { IsMap segment.now (O.key key.now) keys values }
+    requires { IsBound (MapOf keys values) object segment.now }
     ensures { AnswersWith segment.now (λ d. option_map (item_of_kinds keys values)
-        (option_map item_of (first_of (pairs_at d (O.key key.now))))) (option_map item_seen result) }
+        (option_map item_of (first_of (pairs_at d (ByHandle object.handle))))) (option_map item_seen result) }
 {
-    pair_of_key(segment, key, least(keys), false, values)
+    pair_past(segment, object, least(keys), false, values)
 }
 
-/// Returns the map's next pair after the map key `after`, or `None` if there is none. A loop from `first_pair` on reads
-/// all pairs by rising map keys; each call searches from the root of the tree.
+/// Returns the next pair of a located map after the map key `after`, or `None` if there is none. A loop from
+/// `first_pair` on reads all pairs by rising map keys; each call searches from the root of the tree.
 ///
 /// # Conditions
 ///
-/// The object is a map with map keys of the kind of `after` and values of the kind `values`.
-pub fn next_pair<O: ObjectRef>(
+/// The object is there, and is a map with map keys of the kind of `after` and values of the kind `values`.
+#[inline(always)]
+pub fn next_pair(
     segment: &Segment,
-    key: &O,
+    object: Object,
     after: ScalarValue,
     values: ScalarKind,
 ) -> Option<(ScalarValue, ScalarValue)>
-    requires map { IsMap segment.now (O.key key.now) (kind_of_scalar after) values }
+    requires { IsBound (MapOf (kind_of_scalar after) values) object segment.now }
     ensures { AnswersWith segment.now (λ d. option_map (item_of_kinds (kind_of_scalar after) values)
-        (pair_above (value_of_scalar after) (pairs_at d (O.key key.now)))) (option_map item_seen result) }
+        (pair_above (value_of_scalar after) (pairs_at d (ByHandle object.handle)))) (option_map item_seen result) }
 {
-    pair_of_key(segment, key, after, true, values)
-}
-
-/// Returns the first pair of the map of a key whose map key is above a bound, or not below it.
-#[inline(always)]
-fn pair_of_key<O: ObjectRef>(
-    segment: &Segment,
-    key: &O,
-    bound: ScalarValue,
-    above: bool,
-    values: ScalarKind,
-) -> Option<(ScalarValue, ScalarValue)>
-    requires map { IsMap segment.now (O.key key.now) (kind_of_scalar bound) values }
-    ensures { AnswersWith segment.now (λ d. option_map (item_of_kinds (kind_of_scalar bound) values)
-        (pair_past above (value_of_scalar bound) (pairs_at d (O.key key.now)))) (option_map item_seen result) }
-{
-    match locate(segment, key) {
-        Ok(object) => pair_of_kinds(segment, object, bound, above, values),
-        Err(_) => None,
-    }
+    pair_past(segment, object, after, true, values)
 }
 
 /// Returns the least value of a kind.
@@ -84,51 +66,30 @@ pub(crate) fn least(kind: ScalarKind) -> ScalarValue
     by_kind!(kind, least)
 }
 
-/// Returns the map's first pair whose map key is above a bound, or not below it. It is inlined, as are the two calls
-/// for types below, so the choice between the two costs no test.
+/// Returns the map's first pair whose map key is above a bound, or not below it. It is inlined, as is the call for
+/// types below, so the choice between the two costs no test where `above` is known.
 #[inline(always)]
-pub(crate) fn pair_of_kinds(
+pub(crate) fn pair_past(
     segment: &Segment,
     object: Object,
     bound: ScalarValue,
     above: bool,
     values: ScalarKind,
 ) -> Option<(ScalarValue, ScalarValue)>
-    requires object { IsObject object segment.now }
-    requires map { IsMap segment.now (ByHandle object.handle) (kind_of_scalar bound) values }
-    ensures { AnswersWith segment.now (λ d. option_map (item_of_kinds (kind_of_scalar bound) values)
+    requires { IsBound (MapOf (kind_of_scalar bound) values) object segment.now }
+    ensures pair { AnswersWith segment.now (λ d. option_map (item_of_kinds (kind_of_scalar bound) values)
         (pair_past above (value_of_scalar bound) (pairs_at d (ByHandle object.handle)))) (option_map item_seen result) }
-{
-    by_value!(bound, bound => match pair_by_key(segment, object, bound, above, values) {
-        None => None,
-        Some((at, value)) => Some((ScalarValue::from(at), value)),
-    })
-}
-
-/// Returns the map's first pair whose map key is above a bound, or not below it, for map keys of a type.
-#[inline(always)]
-fn pair_by_key<K: Scalar>(
-    segment: &Segment,
-    object: Object,
-    bound: K,
-    above: bool,
-    values: ScalarKind,
-) -> Option<(K, ScalarValue)>
-    requires object { IsObject object segment.now }
-    requires map { IsMap segment.now (ByHandle object.handle) K.kind values }
-    ensures { AnswersWith segment.now (λ d. option_map (item_of_kinds K.kind values)
-        (pair_past above (K.whole bound) (pairs_at d (ByHandle object.handle))))
-        (option_map (λ (x, y). ((K.kind, K.whole x), (kind_of_scalar y, value_of_scalar y))) result) }
+    ensures kind { IfSome result (λ (at, value). kind_of_scalar at ≡ kind_of_scalar bound) }
 {
     macro_rules! read {
-        ($type:ty, $kind:ident) => {
-            match typed_pair::<K, $type>(segment, object, bound, above) {
+        ($bound:ident, $type:ty, $kind:ident) => {
+            match typed_pair::<_, $type>(segment, object, $bound, above) {
                 None => None,
-                Some((at, value)) => Some((at, ScalarValue::$kind(value))),
+                Some((at, value)) => Some((ScalarValue::from(at), ScalarValue::$kind(value))),
             }
         };
     }
-    by_kind!(values, read)
+    by_pair!(bound, values, read)
 }
 
 /// Returns the map's first pair whose map key is above a bound, or not below it, for a map of two types.
@@ -139,14 +100,11 @@ fn typed_pair<K: Scalar, V: Scalar>(
     bound: K,
     above: bool,
 ) -> Option<(K, V)>
-    requires object { IsObject object segment.now }
-    requires map { IsMap segment.now (ByHandle object.handle) K.kind V.kind }
+    requires { IsBound (MapOf K.kind V.kind) object segment.now }
     ensures { AnswersWith segment.now (λ d. option_map (item_of_kinds K.kind V.kind)
         (pair_past above (K.whole bound) (pairs_at d (ByHandle object.handle))))
         (option_map (item_of_kinds K.kind V.kind) (numbers_in K.whole V.whole result)) }
 {
-    // The contract of `as_bytes` gives a directory, which says the kind of the object.
-    let _ = segment.as_bytes();
     let map = Map::<K, V>::at(segment, object);
     if above {
         map.next_after(bound)

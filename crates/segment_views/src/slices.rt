@@ -9,7 +9,7 @@ ghost use Rattle.segment_views.specs.Walked.{GoesOnElements};
 
 use seg_types::{Refusal, Scalar};
 use segment_manager::{Bound, BoundContent, Fixed, Growable, Slice, SliceStorage};
-use segment_values::read_object;
+use segment_values::read_elements;
 use std::marker::Model;
 
 /// An array or a vector of scalars whose elements can be read one after another, or several at once.
@@ -46,7 +46,7 @@ impl<'a, T: Scalar, S: SliceStorage> SliceReads<T, S> for Bound<'a, Slice<T, S>>
             range_at d (key_of self.now.object) T.kind 0 (length values.old)) (read_into T.whole values.new result) }
         ensures unchanged { OnErr result (values.new ≡ values.old) }
     {
-        read_object(self.segment(), self.object(), 0, values)
+        read_elements(self.segment(), self.object(), 0, values)
     }
 }
 

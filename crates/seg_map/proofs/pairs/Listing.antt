@@ -7,10 +7,15 @@ use Rattle.seg_map.proofs.Common.{stands, stands_before, HoldsMap, is_passed, pa
 use Rattle.seg_map.proofs.Common.{length-map}
 use Rattle.seg_map.proofs.pairs.Lists.{each}
 use Rattle.std.proofs.Common.{zero, ◌++◌, take, drop, set, get_or, min, append_assoc, length-take, take_all}
+use Rattle.raw_region.proofs.Facts.{AllByRecursion-filter}
 use Rattle.std.specs.List.{filter}
-use Rattle.std.proofs.lemmas.List.{map-append, set_at}
-use Rattle.seg_map.specs.Searches.{OpensPairTree, IsRead}
-use Rattle.seg_map.specs.Listing.{ListingSteps, ListsNodes, pairs_past, with_pairs}
+use Rattle.std.proofs.lemmas.List.{map-append, set_at, take-map}
+use Rattle.std.proofs.Math.Seq.{take-append_seam}
+use Rattle.seg_map.proofs.Common.{IsTrue, bytes_of, has_room, link_at, live_of, subst}
+use Rattle.seg_map.proofs.pairs.SearchTree.{Laws}
+use Rattle.seg_map.proofs.pairs.{Frame.at_node, Lookup.opened}
+use Rattle.seg_map.specs.Searches.{OpensPairTree, IsRead, item_at}
+use Rattle.seg_map.specs.Listing.{AreNodesOf, HasNode, ListingSteps, ListsNodes, ReadsNode, pairs_past, with_pairs}
 use Rattle.link_tree.specs.Listing.{filled, nodes_from}
 use Rattle.best_fit.specs.declared.places.Place.{Place}
 use Rattle.seg_map.specs.Places.{item_of}
@@ -28,34 +33,21 @@ filter_mapped f test test' (x ∷ xs) a =
       | inr e ↦ rw (a.0 ∙ e, e) rest
     ]
 
-all_filter : {A : Type 0} (P : A → Type 0) (test : A → Bool) (xs : List A) → AllByRecursion P xs
-    → AllByRecursion P (filter test xs)
-all_filter P test [] a = tt
-all_filter P test (x ∷ xs) a =
-    let rest = all_filter P test xs a.1 in
-    elim (cases_Bool (test x)) [
-      | inl e ↦ rw e (a.0, rest)
-      | inr e ↦ rw e rest
-    ]
-
 all_take : {A : Type 0} (P : A → Type 0) (n : ℕ) (xs : List A) → AllByRecursion P xs → AllByRecursion P (take n xs)
 all_take P zero xs a = tt
 all_take P (suc n) [] a = tt
 all_take P (suc n) (x ∷ xs) a = (a.0, all_take P n xs a.1)
 
-take_mapped : {A B : Type 0} (f : A → B) (n : ℕ) (xs : List A) → take n (map f xs) ≡ map f (take n xs)
-take_mapped f zero xs = refl
-take_mapped f (suc n) [] = refl
-take_mapped f (suc n) (x ∷ xs) = ap (λ ys. f x ∷ ys) (take_mapped f n xs)
-
--- the first places of a list that is filled
-take_filled : (list ns : List ℕ) (count : ℕ) → count ≤ length list → count ≤ length ns
-    → take count (filled list ns) ≡ take count ns
-take_filled list ns zero a b = refl
-take_filled [] ns (suc count) a b = absurd (omega arith)
-take_filled (x ∷ list) [] (suc count) a b = absurd (omega arith)
-take_filled (x ∷ list) (n ∷ ns) (suc count) a b =
-    ap (λ ms. n ∷ ms) (take_filled list ns count (omega arith) (omega arith))
+-- a list that is filled, by the number of places that are
+filled_first : (list ns : List ℕ) (count : ℕ) → count ≡ min (length list) (length ns)
+    → filled list ns ≡ take count ns ++ drop count list
+filled_first [] [] zero e = refl
+filled_first [] (n ∷ ns) zero e = refl
+filled_first (x ∷ list) [] zero e = refl
+filled_first (x ∷ list) (n ∷ ns) zero e = absurd (omega arith)
+filled_first [] ns (suc count) e = absurd (omega arith)
+filled_first (x ∷ list) [] (suc count) e = absurd (omega arith)
+filled_first (x ∷ list) (n ∷ ns) (suc count) e = ap (λ ms. n ∷ ms) (filled_first list ns count (omega arith))
 
 split_drop : {A : Type 0} (ys : List A) (n : ℕ) → n < length ys → (y : A) × (drop n ys ≡ y ∷ drop (suc n) ys)
 split_drop [] n l = absurd (omega arith)
@@ -130,26 +122,64 @@ module _ {K V : Type 0} {k : Plain K} {v : Plain V} {now c : WindowState} {at : 
   -- the nodes that are listed
   pub lists_nodes : (list list' : List ℕ) (count : ℕ) → Asked (λ t. list' ≡ filled list (nodes_from ahead (nodes_of t)))
       → Asked (λ t. count ≡ min (length list) (length (nodes_from ahead (nodes_of t))))
-      → ListsNodes k v c at past key list list' count
+      → ListsNodes k v c.bytes at past key list list' count
   lists_nodes list list' count filled_by many ps s =
       let t = s.map.tree.tree in
       let w = (o.tree ps s).tree in
       let qs = pairs_past k.order past key ps in
       let same = nodes_past ps s in
-      let size : length (nodes_from ahead (nodes_of t)) ≡ length qs = ap length same ∙ length-map qs pair_node in
-      let counted = many t w in
-      let first : count ≡ min (length list) (length qs) = counted ∙ ap (min (length list)) size in
-      let within : count ≤ length list = omega arith in
-      let there : count ≤ length (nodes_of_pairs qs) = omega (arith, length-map qs pair_node) in (
+      let counted : count ≡ min (length list) (length (nodes_of_pairs qs)) =
+      many t w ∙ ap (λ ns. min (length list) (length ns)) same in
+      let first : count ≡ min (length list) (length qs) =
+      counted ∙ ap (min (length list)) (length-map qs pair_node) in
+      let long : length (take count qs) ≡ count = omega (arith, length-take count qs) in (
         first,
-        (
-          keys_in k own now,
-          ap (take count) (filled_by t w ∙ ap (filled list) same)
-              ∙ take_filled list (nodes_of_pairs qs) count within there ∙ take_mapped pair_node count qs,
-          all_take (IsRead k v c (keys_in k own now)) count qs
-              (all_filter (IsRead k v c (keys_in k own now)) (λ p. not (is_passed k.order past key p)) ps
-              (o.pairs ps s)),
-        ),
+        filled_by t w ∙ ap (filled list) same ∙ filled_first list (nodes_of_pairs qs) count counted
+            ∙ ap (λ ns. ns ++ drop count list) (take-map pair_node count qs)
+            ∙ ap (λ n. nodes_of_pairs (take count qs) ++ drop n list) (sym long),
+      )
+
+-- ---- the pairs of a map at their nodes
+
+module _ {K V : Type 0} {k : Plain K} {v : Plain V} (kl : Laws k) (vl : Laws v) (c : WindowState) (at : Place) where
+  -- each pair of a map can be read at its node
+  map_read : (ps : List (Pair K V)) → HoldsMap k v c.bytes at.handle at.at ps
+      → (keys : ℕ → Option K) × AllByRecursion (IsRead k v c keys) ps
+  map_read ps s =
+      let o = opened kl vl c at.handle at.at {root = link_at (bytes_of c.bytes) (at.handle + at.at)} refl refl in
+      (_, o.pairs ps s)
+
+  -- the node of a pair has room for it
+  pub room_at_node : (node : ℕ) → HasNode k v c.bytes at node
+      → IsTrue (has_room (live_of c.bytes) node (16 + k.SIZE + v.SIZE))
+  room_at_node node (ps, s, i) =
+      let r = map_read ps s in
+      let n = at_node (IsRead k v c r.0) ps node i r.1 in
+      subst (λ m. IsTrue (has_room (live_of c.bytes) m (16 + k.SIZE + v.SIZE))) n.at n.holds.room
+
+  -- what is read at a node is its pair
+  pub reads_node : (node : ℕ) (result : Option (K × V)) → result ≡ item_at k v (bytes_of c.bytes) node
+      → ReadsNode k v c.bytes at node result
+  reads_node node result e ps s =
+      let r = map_read ps s in
+      each ps r.1 (λ p q is. e ∙ ap (item_at k v (bytes_of c.bytes)) (sym is) ∙ q.item)
+
+  -- the nodes that are listed are nodes of pairs that can be read
+  pub listed_nodes : (past : Bool) (key : K) (list list' : List ℕ) (count : ℕ)
+      → ListsNodes k v c.bytes at past key list list' count → (ps : List (Pair K V))
+      → HoldsMap k v c.bytes at.handle at.at ps
+      → AreNodesOf k v c (take count list') (take count (pairs_past k.order past key ps))
+  listed_nodes past key list list' count lists ps s =
+      let r = map_read ps s in
+      let l = lists ps s in
+      let qs = pairs_past k.order past key ps in
+      let ns = nodes_of_pairs (take count qs) in
+      let long : length ns ≡ count = omega (arith, l.0, length-map (take count qs) pair_node, length-take count qs) in (
+        r.0,
+        ap (take count) l.1 ∙ ap (λ n. take n (ns ++ drop (length (take count qs)) list)) (sym long)
+            ∙ take-append_seam ns (drop (length (take count qs)) list),
+        all_take (IsRead k v c r.0) count qs
+            (AllByRecursion-filter (IsRead k v c r.0) (λ p. not (is_passed k.order past key p)) ps r.1),
       )
 
 -- the steps of a listing, by the number of pairs

@@ -10,18 +10,20 @@ use Rattle.segment_manager.proofs.Common.{exit-is, refusal_in, refusal_of}
 use Rattle.segment_manager.proofs.Common.{refl, true, ℕ, OnErr, IsNotToChange, LeadsOnOfKind, answer_of}
 use Rattle.std.specs.Prelude.{IsErrAnd}
 use Rattle.segment_manager.proofs.Common.{false, Directory, DenotesCurrent, int_lt, pair_at, pairs_at}
-use Rattle.segment_manager.proofs.Common.{MatchResult}
+use Rattle.segment_manager.proofs.Common.{MatchResult, IsSegment, IsObjectInBlock, handle_at}
 use Rattle.segment_manager.proofs.containers.RangeCalls.{no-same}
-use Rattle.segment_manager.proofs.containers.Refilled.{finds-no_container, placed, told-some}
+use Rattle.segment_manager.proofs.containers.Refilled.{finds-no_container, placed, told-none, told-some}
 use Rattle.segment_manager.proofs.objects.Locating.{IsSaidAt, said-at}
 use Rattle.segment_manager.proofs.containers.{StorageSteps.step_of_kind-reply, ToChange.not-changed}
 use Rattle.segment_manager.proofs.directory.CommandSteps.{open-reading}
+use Rattle.segment_manager.proofs.{objects.Here.nothing-if, objects.Here.seen-object, objects.Standings.alike}
+use Rattle.segment_manager.proofs.objects.Locating.{head-located, locates}
 use Rattle.segment_manager.proofs.objects.Locating.{leads_on-by_key, reply_of_kind-by_key, same-object}
 use Rattle.segment_manager.proofs.objects.Locating.{step_of_kind-by_key, told-by_key}
 use Rattle.segment_manager.specs.Keeping.{ChangesValue, LacksFirst, LacksPair}
 use Rattle.segment_manager.specs.Laws.{at_key}
 use Rattle.segment_manager.specs.objects.BoundObjects.{IsBound, LacksKind, key_of}
-use Rattle.segment_manager.specs.objects.Located.{IsObject}
+use Rattle.segment_manager.specs.objects.Located.{IsObject, located}
 
 module _ {s t : SegmentState} (same : t ≡ s) {key : Key} {o : Located} (l : IsLocated s key o) where
   -- an answer
@@ -143,6 +145,22 @@ of-located {s} {key} {o} l kind (Err why) m = subst (LacksKind s key kind) (sym 
       sym (told-some d key kind placed p.object false p.is (no-same kind (kind_of p.object.value)
       (λ e. m.1 (ap (λ (q : Located). q.kind) p.said ∙ sym e))));
 })
+
+-- the object at the handle that was found has the kind, or the key has no object of the kind
+pub of-found : {s t : SegmentState} (view : s ≡ t) (key : Key) {h : ℕ} (kind : Kind) (r : Result Located Refusal)
+    → IsSegment s.cut.bytes → AnswersWith t (λ d. handle_at d key) (Some h)
+    → ((o : Object) → IsObjectInBlock s.cut.bytes h o → MatchResult r (λ q. (q ≡ located o) × (q.kind ≡ kind))
+    (λ why. (why ≡ WrongKind) × (kind_of o.value ≡ kind → ⊥))) → MatchResult r (IsLocated t key) (LacksKind t key kind)
+of-found view key {h} kind r g a each =
+    let there = seen-object _ _ view key h g a in
+    of-located (locates (head-located view key a (λ o s. alike there.1 s))) kind r (each there.0 there.1)
+
+-- no object was found
+pub none-found : {s : SegmentState} (key : Key) (kind : Kind) → AnswersWith s (λ d. handle_at d key) None
+    → LacksKind s key kind NotFound
+none-found key kind a = record {
+  answers = λ d k. sym (told-none d key kind placed (nothing-if (object_at d key) (a.answers d k)));
+}
 
 -- it is bound to its kind
 pub binds : {s : SegmentState} {o : Located} {kind : Kind} → IsObject o s → o.kind ≡ kind → IsBound kind o s

@@ -7,10 +7,10 @@ use common.{ScalarKind, U8, size_of, spelled, Scalar, String, Vector, Refusal, N
 use common.{Numbers, Elements, Bytes, Pairs, Texts, object_at, kind_of, padded, head_len, IsValueAt, IsObjectInBlock}
 use common.{AnswersWith, handle_at, SegmentState, DenotesCurrent, IsSegment, Contents, slice_get, list_all, is_value}
 use common.{is_good_value, spelling, contents_of, Denotes, count_of, eqb-true, has_backing, Storage, IfSome, value_len}
-use common.{WrongKind, option_map, ByHandle, IsLocated, Located}
+use common.{WrongKind, option_map, ByHandle, IsLocated, IsMissing, Located}
 use Rattle.segment_manager.proofs.objects.Locating.{same-object, told-by_key}
 use Rattle.segment_manager.proofs.objects.Here.{here, seen-handle, standing}
-use Rattle.segment_manager.specs.{objects.Located.located, objects.Located.located_at, objects.ElementLists.numbers_in}
+use Rattle.segment_manager.specs.{objects.ElementLists.numbers_in}
 use Rattle.segment_manager.proofs.objects.Standings.{standing-room, standing-short}
 use Rattle.segment_manager.proofs.{containers.Contained.contents-stand, directory.HeapCalls.denotes-heap}
 use Rattle.segment_manager.proofs.{directory.Frame.object-roomy}
@@ -229,14 +229,11 @@ run-answers {s} {t} view key {h} {r} a each =
           each o.object o.stands ∙ sym (ap run_if o.is);
     })
 
-nothing-if : (r : Option Object) → None ≡ option_map located r → r ≡ None
-nothing-if None e = refl
-nothing-if (Some o) e = absurd (cc)
-
 -- an object that does not exist has no run
-pub no-run : {s : SegmentState} (key : Key) → AnswersWith s (λ d. located_at d key) None
-    → AnswersWith s (λ d. run_at d key) (Err NotFound)
-no-run key a = record { answers = λ d k. sym (ap run_if (nothing-if (object_at d key) (a.answers d k))) }
+pub no-run : (s : SegmentState) (key : Key) {why : Refusal} → IsMissing s key why
+    → AnswersWith s (λ d. run_at d key) (Err why)
+no-run s key m = subst (λ (r : Refusal). AnswersWith s (λ d. run_at d key) (Err r)) (sym m.is)
+    (record { answers = λ d k. sym (ap run_if (m.missing d k)) })
 
 -- and its bytes encode the elements
 pub run-bytes : {s t : SegmentState} (view : s ≡ t) (key : Key) (r : Result ElementRun Refusal) → IsSegment s.cut.bytes

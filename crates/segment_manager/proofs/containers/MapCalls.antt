@@ -27,7 +27,9 @@ use Rattle.segment_manager.proofs.containers.MapBlocks.{blocks-in_use, found-key
 use Rattle.segment_manager.proofs.containers.StorageSteps.{step_of_kind-reply}
 use Rattle.best_fit.specs.declared.places.Place.{Place}
 use Rattle.seg_map.proofs.Laws.{replaced_nodes}
-use Rattle.segment_manager.specs.{Answers.Absent, containers.Maps.IsPairs}
+use Rattle.segment_manager.specs.{Answers.Absent, containers.Maps.IsPairs, containers.Walks.pairs_at_kinds}
+use Rattle.segment_manager.specs.containers.Walks.{pairs_of}
+use Rattle.segment_manager.proofs.objects.ElementLists.{list-of}
 
 -- ---- the search
 
@@ -163,6 +165,13 @@ module _ (s : SegmentState) (key : Key) (k v : ScalarKind) (p : Place) (b : IsSe
       ∙ ap (perform d (live_of s.cut.bytes)) (lookup-plan h (literal_of k x) x (literal-read k x good))
       ∙ looked-up h (live_of s.cut.bytes) (pair_at int_lt h.pairs x)
       ∙ (λ i. (value_or_absent v (sym (each h.pairs h.map) i), d))))
+
+  -- the pairs that are listed are the map's
+  pub map-listed : (d : Directory) → DenotesCurrent s.cut.bytes d → IsPairs k v s.cut.bytes p (pairs_at_kinds d key k v)
+  map-listed d l =
+      let h : Holds d = map_in d l in
+      subst (IsPairs k v s.cut.bytes p) (sym (list-of pairs_of d key (Map k v) h.object true h.is (is-map h)
+      ∙ ap pairs_of h.known.value)) h.map
 
   -- a function of the pairs is a function of the object's pairs
   pub map-told : {A : Type 0} (say : List NumberPair → A) (r : A) → ((ps : List NumberPair) → IsPairs k v s.cut.bytes p

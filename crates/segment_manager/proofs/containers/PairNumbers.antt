@@ -15,9 +15,10 @@ use Rattle.std.proofs.Common.{zero, suc, ◌++◌, take, drop, min, arith, inl, 
 use Rattle.std.proofs.lemmas.Bool.{cases_lt}
 use Rattle.std.proofs.lemmas.List.{map-append, take_all}
 use Rattle.std.specs.List.{filter}
-use Rattle.segment_manager.specs.containers.Maps.{count_read, number_item, pairs_read}
-use Rattle.seg_map.specs.Listing.{ReadsPairs, pairs_past, with_pairs}
-use Rattle.seg_map.specs.Places.{final_pair, is_passed, last_pair}
+use Rattle.link_tree.specs.Nodes.{is_in}
+use Rattle.segment_manager.specs.containers.Maps.{count_read, nodes_read, number_item, pairs_read}
+use Rattle.seg_map.specs.Listing.{HasNode, ListsNodes, ReadsNode, ReadsPairs, pairs_past, with_nodes, with_pairs}
+use Rattle.seg_map.specs.Places.{final_pair, is_passed, last_pair, pair_node}
 use Rattle.seg_map.specs.{Changing.CountsPairs, Changing.FreesAllPairs, Map.IsPairAt, Map.Pair, Map.is_pair}
 use Rattle.seg_map.proofs.Laws.{last_mapped, map_reversed}
 
@@ -127,6 +128,10 @@ module _ {K V : Type 0} {k v : ScalarKind} {kp : Plain K} {vp : Plain V} {kw : K
       items : (qs : List (Pair K V)) → map (number_item kw vw) (map item_of qs) ≡ map item_of (number_pairs qs)
       items [] = refl
       items (q ∷ qs) = ap (λ xs. (kw q.key, vw q.value) ∷ xs) (items qs)
+
+  -- a list with the nodes of pairs
+  with-nodes : (ps : List (Pair K V)) (list : List ℕ) → with_nodes (number_pairs ps) list ≡ with_nodes ps list
+  with-nodes ps list = λ i. numbers-nodes ps i ++ drop (length-map ps number_pair i) list
 
   -- the pairs from a key on, as numbers
   numbers-past : (past : Bool) (x : K) (ps : List (Pair K V))
@@ -313,11 +318,11 @@ module _ {K V : Type 0} {k v : ScalarKind} {kp : Plain K} {vp : Plain V} {kw : K
     finds-last = finds final_pair final_pair (λ ps. last_mapped number_pair None ps)
 
     -- how many pairs are read into a list
-    pub counts-past : (past : Bool) (x : K) (places : ℕ) (list list' : List (K × V)) (n : ℕ)
-        → ReadsPairs kp vp b (record { handle = h; at = at }) past x places list list' n → (qs : List NumberPair)
-        → HoldsNumbers b h at qs → n ≡ count_read past (kw x) places qs
-    counts-past past x places list list' n each = of-values (λ qs. n ≡ count_read past (kw x) places qs)
-        (λ ps s. (each ps s).0 ∙ ap (min places) (sym (ap length (numbers-past past x ps)
+    pub counts-past : (past : Bool) (x : K) (places n : ℕ)
+        → ((ps : List (Pair K V)) → HoldsMap kp vp b h at ps → n ≡ min places (length (pairs_past kp.order past x ps)))
+        → (qs : List NumberPair) → HoldsNumbers b h at qs → n ≡ count_read past (kw x) places qs
+    counts-past past x places n each = of-values (λ qs. n ≡ count_read past (kw x) places qs)
+        (λ ps s. each ps s ∙ ap (min places) (sym (ap length (numbers-past past x ps)
         ∙ length-map (pairs_past kp.order past x ps) number_pair)))
 
     -- the pairs that are read into a list, as numbers
@@ -335,6 +340,40 @@ module _ {K V : Type 0} {k v : ScalarKind} {kp : Plain K} {vp : Plain V} {kw : K
         ∙ with-numbers (take places them) list
         ∙ sym (ap (λ ts. with_pairs ts (map (number_item kw vw) list)) (ap (take places) (numbers-past past x ps)
         ∙ take-made number_pair places them)))
+
+    -- the nodes that are listed, of pairs of numbers
+    pub nodes-past : (past : Bool) (x : K) (list list' : List ℕ) (n : ℕ)
+        → ListsNodes kp vp b (record { handle = h; at = at }) past x list list' n → (qs : List NumberPair)
+        → HoldsNumbers b h at qs → list' ≡ nodes_read past (kw x) (length list) list qs
+    nodes-past past x list list' n each =
+        of-values (λ qs. list' ≡ nodes_read past (kw x) (length list) list qs) (λ ps s.
+        let them = pairs_past kp.order past x ps in let places = length list in
+        let first : take n them ≡ take places them = ap (λ m. take m them) (each ps s).0 ∙ take-places places them in
+        (each ps s).1 ∙ ap (λ ts. with_nodes ts list) first ∙ sym (with-nodes (take places them) list)
+        ∙ sym (ap (λ ts. with_nodes ts list) (ap (take places) (numbers-past past x ps)
+        ∙ take-made number_pair places them)))
+
+    -- a node of a pair of numbers is a node of a pair of values
+    pub has-node : (node : ℕ) (qs : List NumberPair) → HoldsNumbers b h at qs → is_in node (nodes_of_pairs qs) ≡ true
+        → HasNode kp vp b (record { handle = h; at = at }) node
+    has-node node qs s i =
+        let r = reached-map qs s in
+        (r.0, r.1.1, ap (is_in node) (sym (numbers-nodes r.0) ∙ ap nodes_of_pairs r.1.0) ∙ i)
+
+    -- a property of each pair, of pairs of numbers
+    node-read : (node : ℕ) (r : Option (K × V)) (ps : List (Pair K V))
+        → AllByRecursion (λ p. pair_node p ≡ node → r ≡ Some (item_of p)) ps
+        → AllByRecursion (λ q. pair_node q ≡ node → numbers_in kw vw r ≡ Some (item_of q)) (number_pairs ps)
+    node-read node r [] a = tt
+    node-read node r (p ∷ ps) a = (λ is. ap (numbers_in kw vw) (a.0 is), node-read node r ps a.1)
+
+    -- the pair that is read at a node, as numbers
+    pub reads-node : (node : ℕ) (r : Option (K × V)) → ReadsNode kp vp b (record { handle = h; at = at }) node r
+        → (qs : List NumberPair) → HoldsNumbers b h at qs
+        → AllByRecursion (λ q. pair_node q ≡ node → numbers_in kw vw r ≡ Some (item_of q)) qs
+    reads-node node r each = of-values
+        (λ qs. AllByRecursion (λ q. pair_node q ≡ node → numbers_in kw vw r ≡ Some (item_of q)) qs)
+        (λ ps s. node-read node r ps (each ps s))
 
     -- the number of pairs is the number of pairs of numbers
     pub counts-numbers : (n : ℕ) → CountsPairs kp vp b h at n → CountsPairs (numbers_of k) (numbers_of v) b h at n

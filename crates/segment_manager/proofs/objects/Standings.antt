@@ -33,7 +33,8 @@ head-words {b} {h} {o} s =
       class = ap (λ a. word_at (bytes_of b) (a + 8) / 4294967296) s.at ∙ e.class;
     }
 
-one-kind : {k l : Kind} → code_of k ≡ code_of l → k ≡ l
+-- two kinds with one code are the same
+pub one-kind : {k l : Kind} → code_of k ≡ code_of l → k ≡ l
 one-kind {k} {l} e = same_Some k l (sym (code-read k) ∙ ap kind_of_code e ∙ code-read l)
 
 -- so two objects in one block are equal in all parts

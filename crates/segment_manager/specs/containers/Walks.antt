@@ -1,10 +1,14 @@
 -- The pairs of a map, one after another by rising map keys.
-use Rattle.std.specs.Prelude.{ℤ, Bool, Option, Some, None, Result, Ok, Err, List, [], ◌∷◌, int_lt, option_map}
+use Rattle.std.specs.Prelude.{◌≡◌, ℕ, ℤ, Bool, true, Option, Some, None, Result, Ok, Err, List, [], ◌∷◌, int_lt}
+use Rattle.std.specs.{List.AllByRecursion, Prelude.option_map}
+use Rattle.link_tree.specs.Nodes.{is_in}
 use Rattle.seg_types.specs.{declared.kinds.Kind.TheVariants.Map, declared.kinds.ScalarKind.ScalarKind}
 use Rattle.seg_types.specs.{declared.refusals.Refusal.Refusal, Names.Key, Values.kind_of_scalar, Values.value_of_scalar}
 use Rattle.seg_types.specs.declared.values.ScalarValue.{ScalarValue}
-use Rattle.seg_map.specs.{Numbers.NumberPair, Places.first_pair, Places.item_of}
+use Rattle.seg_map.specs.{Numbers.NumberPair, Places.first_pair, Places.item_of, Places.nodes_of_pairs}
+use Rattle.seg_map.specs.Places.{pair_node}
 use Rattle.segment_manager.specs.{Calls.kind_at, objects.ElementLists.list_at, State.AnswersWith, State.SegmentState}
+use Rattle.segment_manager.specs.State.{DenotesCurrent}
 use Rattle.segment_manager.specs.Directory.{Value, Numbers, Elements, Bytes, Pairs, Texts, Directory, object_at}
 
 -- ---- the map
@@ -28,6 +32,16 @@ pairs_at d key = elim (object_at d key) [ None ↦ [] | Some o ↦ pairs_of o.va
 -- the pairs of a key's map of the kinds; none for any other object
 abbrev pub pairs_at_kinds : Directory → Key → ScalarKind → ScalarKind → List NumberPair
 pairs_at_kinds d key k v = list_at pairs_of d key (Map k v)
+
+-- a pair of the key's map has the node
+abbrev pub HasPairNode : SegmentState → Key → ScalarKind → ScalarKind → ℕ → Type 0
+HasPairNode s key k v node = AnswersWith s (λ d. is_in node (nodes_of_pairs (pairs_at_kinds d key k v))) true
+
+-- the result is the pair of the key's map that has the node
+pub record ReadsPairNode (s : SegmentState) (key : Key) (k v : ScalarKind) (node : ℕ) (item : Option (ℤ × ℤ)) : Type 0
+  where
+    pub pairs : (d : Directory) → DenotesCurrent s.cut.bytes d
+        → AllByRecursion (λ p. pair_node p ≡ node → item ≡ Some (item_of p)) (pairs_at_kinds d key k v)
 
 -- the first pair of the list
 abbrev pub first_of : List NumberPair → Option NumberPair

@@ -1,6 +1,7 @@
 //! Maps that were looked up once.
-ghost use Rattle.std.specs.Prelude.{◌≡◌, IfErr, Ok, OnErr, length, map, min};
-ghost use Rattle.segment_manager.specs.containers.Maps.{count_read, number_item, pairs_read};
+ghost use Rattle.std.specs.Prelude.{◌≡◌, ◌≤◌, IfErr, Ok, OnErr, length, map, min};
+ghost use Rattle.segment_manager.specs.containers.Maps.{count_read, nodes_read, number_item, pairs_read};
+ghost use Rattle.segment_manager.specs.containers.Walks.{HasPairNode, ReadsPairNode};
 ghost use Rattle.seg_types.specs.Commands.{Lookup, Put, Remove, literal_of};
 ghost use Rattle.seg_types.specs.declared.kinds.Kind.TheVariants.{Map as MapOf};
 ghost use Rattle.seg_types.specs.declared.refusals.Refusal.TheVariants.{NoSpace as NoSpaceLeft};
@@ -112,6 +113,41 @@ impl<'a, K: Scalar, V: Scalar> Bound<'a, Pairs<K, V>> {
         let segment = self.segment;
         let map = SegMap::<K, V>::at(self.object.own_container());
         map.read_from(&segment.heap, from, past, list, &mut Steps::new())
+    }
+
+    /// Lists the nodes of the pairs whose map keys are not below `from`, or above it if `past` is set, by rising map
+    /// keys, in the first places of the list, as many as it has places for. Returns how many they are; the other places
+    /// keep what they have.
+    ///
+    /// Example: `let count = years.nodes_from(2, false, &mut nodes)`.
+    pub fn nodes_from(&self, from: K, past: bool, list: &mut [u64]) -> usize
+        ensures count { AnswersWith self.now.segment.now (λ d.
+            answer_of_map d (key_of self.now.object) K.kind V.kind
+            (count_read past (K.whole from) (length list.old))) (Ok result) }
+        ensures list { AnswersWith self.now.segment.now (λ d.
+            answer_of_map d (key_of self.now.object) K.kind V.kind
+            (nodes_read past (K.whole from) (length list.old) list.old)) (Ok list.new) }
+        ensures in_bounds { result ≤ length list.new }
+    {
+        let segment = self.segment;
+        let map = SegMap::<K, V>::at(self.object.own_container());
+        map.nodes_from(&segment.heap, from, past, list, &mut Steps::new())
+    }
+
+    /// Returns the pair that has a node, as `nodes_from` lists them.
+    ///
+    /// Example: `let pair = years.pair_of(nodes[0])`.
+    ///
+    /// # Conditions
+    ///
+    /// A pair of the map has the node.
+    pub fn pair_of(&self, node: u64) -> Option<(K, V)>
+        requires { HasPairNode self.now.segment.now (key_of self.now.object) K.kind V.kind node }
+        ensures { ReadsPairNode self.now.segment.now (key_of self.now.object) K.kind V.kind node
+            (numbers_in K.whole V.whole result) }
+    {
+        let segment = self.segment;
+        SegMap::<K, V>::at(self.object.own_container()).pair_of(&segment.heap, node)
     }
 
     /// Returns the last pair, or `None` if the map is empty.

@@ -10,7 +10,7 @@ ghost use Rattle.segment_manager.specs.{objects.Located.IsObject, objects.Locate
 ghost use Rattle.segment_manager.specs.{objects.BoundObjects.key_of, objects.Standing.HasObject};
 ghost use Rattle.segment_manager.specs.{objects.Standing.IsObjectInBlock};
 
-use crate::objects::object_ref::{Object, ObjectRef};
+use crate::objects::object_ref::{Object, ObjectRef, locate};
 use crate::segment::Segment;
 use best_fit::Heap;
 use seg_types::{Kind, Refusal, ScalarKind};
@@ -40,10 +40,8 @@ impl Segment {
         ensures run { AnswersWith self.now (λ d. run_at d (O.key key.now)) result }
         ensures bytes { IfOk result (λ run. IsRunOf self.now (O.key key.now) run) }
     {
-        match key.find(self) {
-            None => Err(Refusal::NotFound),
-            Some(object) => element_run_of(self, object),
-        }
+        let object = locate(self, key)?;
+        element_run_of(self, object)
     }
 }
 

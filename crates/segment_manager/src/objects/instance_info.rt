@@ -47,7 +47,7 @@ impl Segment {
     {
         match key.find(self) {
             None => Err(Refusal::NotFound),
-            Some(object) => Ok(read_instance(&self.heap, object.handle)),
+            Some(handle) => Ok(read_instance(&self.heap, handle)),
         }
     }
 

@@ -1,14 +1,16 @@
 //! The objects of keys.
-ghost use Rattle.std.specs.Prelude.{◌≡◌, ◌+◌, ◌*◌, ◌≤◌, MatchResult, true};
+ghost use Rattle.std.specs.Prelude.{◌≡◌, ◌+◌, ◌*◌, ◌≤◌, IfOk, MatchResult, true};
+ghost use Rattle.seg_types.specs.declared.refusals.Refusal.TheVariants.{WrongKind as OtherKind};
 ghost use Rattle.seg_types.specs.Kinds.{size_of};
 ghost use Rattle.seg_types.specs.{Keys.key_seen, Keys.name_seen, Names.ByHandle, Names.ByName, Names.Key as AnyKey};
-ghost use Rattle.segment_manager.specs.{Directory.Object as DirectoryObject, objects.Found.is_object_at};
+ghost use Rattle.segment_manager.specs.{Directory.Object as DirectoryObject, Directory.kind_of};
+ghost use Rattle.segment_manager.specs.objects.Found.{handle_at, is_object_at};
 ghost use Rattle.segment_manager.specs.{objects.Instances.IsMissing, objects.Standing.HasObject, State.AnswersWith};
 ghost use Rattle.segment_manager.specs.objects.Standing.{IsObjectInBlock};
-ghost use Rattle.segment_manager.specs.objects.Located.{IsLocated, element_in, located, located_at, value_offset};
+ghost use Rattle.segment_manager.specs.objects.Located.{IsLocated, element_in, located, value_offset};
 ghost use Rattle.segment_manager.specs.objects.BoundObjects.{container_of};
 
-use crate::layout::value_at;
+use crate::layout::{HALF, NAME_CLASS_AT, value_at};
 use crate::objects::head::read_head;
 use crate::segment::Segment;
 use best_fit::{Heap, Place};
@@ -79,36 +81,24 @@ pub trait ObjectRef {
     // The key by which commands name the object.
     ghost key: { Self → AnyKey };
 
-    /// Returns the object in a segment, or `None` if there is none.
-    fn find(&self, segment: &Segment) -> Option<Object>
-        ensures { AnswersWith segment.now (λ d. located_at d (key self.now)) result };
+    /// Returns the handle of the object in a segment, or `None` if there is none.
+    fn find(&self, segment: &Segment) -> Option<Handle>
+        ensures { AnswersWith segment.now (λ d. handle_at d (key self.now)) result };
 }
 
 impl ObjectRef for Key<'_> {
     ghost key = { key_seen };
 
-    fn find(&self, segment: &Segment) -> Option<Object> {
-        segment.object_of(self)
+    fn find(&self, segment: &Segment) -> Option<Handle> {
+        segment.handle_of(self)
     }
 }
 
 impl ObjectRef for Name<'_> {
     ghost key = { λ name. ByName (name_seen name) };
 
-    fn find(&self, segment: &Segment) -> Option<Object> {
-        segment.object_of(&Key::Name(*self))
-    }
-}
-
-impl Segment {
-    /// Returns the object of a key, or `None` if no object has the key.
-    pub(crate) fn object_of(&self, key: &Key) -> Option<Object>
-        ensures { AnswersWith self.now (λ d. located_at d (key_seen key.now)) result }
-    {
-        match self.handle_of(key) {
-            None => None,
-            Some(handle) => Some(read_object(&self.heap, handle)),
-        }
+    fn find(&self, segment: &Segment) -> Option<Handle> {
+        segment.handle_of(&Key::Name(*self))
     }
 }
 
@@ -128,6 +118,33 @@ fn read_object(heap: &Heap, handle: Handle) -> Object
     }
 }
 
+/// Returns the object at a handle, from its head, if it has the kind. It compares the code of the kind with the code in
+/// the head, and decodes no kind.
+///
+/// # Errors
+///
+/// `WrongKind` if it has another kind.
+#[inline(always)]
+pub(crate) fn read_of_kind(heap: &Heap, handle: Handle, kind: Kind) -> Result<Object, Refusal>
+    requires { HasObject heap.now.bytes handle }
+    ensures object { (o : DirectoryObject) → IsObjectInBlock heap.now.bytes handle o
+        → MatchResult result (λ q. (q ≡ located o) × (q.kind ≡ kind))
+        (λ why. (why ≡ OtherKind) × (kind_of o.value ≡ kind → ⊥)) }
+    ensures kind { IfOk result (λ o. o.kind ≡ kind) }
+{
+    let first = heap.word(handle, 0);
+    if first % HALF != u64::from(kind.code()) {
+        return Err(Refusal::WrongKind);
+    }
+    let second = heap.word(handle, NAME_CLASS_AT);
+    Ok(Object {
+        handle,
+        kind,
+        name_len: (second % HALF) as u8,
+        count: (first / HALF) as u32,
+    })
+}
+
 /// Looks the object of a key up. `Bound::at` and `BoundMut::at` make no look-up.
 ///
 /// Example: `let object = locate(&segment, &name)?`.
@@ -140,7 +157,7 @@ pub fn locate<O: ObjectRef>(segment: &Segment, key: &O) -> Result<Object, Refusa
 {
     match key.find(segment) {
         None => Err(Refusal::NotFound),
-        Some(object) => Ok(object),
+        Some(handle) => Ok(read_object(&segment.heap, handle)),
     }
 }
 

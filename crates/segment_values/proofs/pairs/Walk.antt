@@ -1,6 +1,8 @@
 -- The pairs of a map: all their texts together are the texts of its value.
-use Rattle.std.proofs.Common.{◌≡◌, ℕ, List, [], length, Option, Some, None, slice_get, sym, ap, ◌∙◌, false, subst}
-use Rattle.std.specs.Prelude.{option_map}
+use Rattle.std.proofs.Common.{◌≡◌, ℕ, ◌+◌, Bool, List, [], length, Option, Some, None, slice_get, sym, ap, ◌∙◌, false}
+use Rattle.std.proofs.Common.{subst}
+use Rattle.std.specs.Prelude.{Result, option_map, true}
+use Rattle.raw_region.specs.Device.{WriterHistory, Writes}
 use Rattle.seg_types.specs.declared.values.ScalarValue.{ScalarValue}
 use Rattle.seg_types.specs.Kinds.{lowest}
 use Rattle.seg_types.specs.Values.{kind_of_scalar, value_of_scalar}
@@ -10,18 +12,21 @@ use Rattle.seg_types.specs.Names.{ByHandle, Key}
 use Rattle.seg_map.specs.Numbers.{NumberPair}
 use Rattle.seg_map.specs.Places.{item_of}
 use Rattle.segment_manager.specs.declared.objects.object_ref.Object.{Object as Located}
-use Rattle.segment_manager.specs.containers.Walks.{IsMap, KindedPair, first_of, item_of_kinds, pair_past, pairs_at}
+use Rattle.segment_manager.specs.containers.Walks.{KindedPair, first_of, item_of_kinds, item_seen, pair_past, pairs_at}
 use Rattle.segment_manager.specs.containers.Walks.{pairs_of}
 use Rattle.segment_manager.specs.Directory.{Value, Pairs, Object, Directory, kind_of}
-use Rattle.segment_manager.specs.objects.Located.{IsLocated}
+use Rattle.segment_manager.specs.objects.{BoundObjects.IsBound, Located.IsLocated}
 use Rattle.segment_manager.specs.Parts.{part_of, parts_until}
 use Rattle.segment_manager.specs.State.{AnswersWith, SegmentState, DenotesCurrent}
-use Rattle.segment_manager.proofs.{Laws.said-at, NextPairs.first-walked}
-use Rattle.segment_values.specs.Asked.{pair_part, pair_text}
+use Rattle.segment_manager.proofs.{Laws.said-at, PartLaws.well}
+use Rattle.segment_manager.proofs.NextPairs.{IsNext, first-walked, next-behind, next-first, next-none, none-text}
+use Rattle.segment_manager.proofs.NextPairs.{pair-said}
+use Rattle.segment_values.specs.{Asked.pair_part, Asked.pair_text, Asked.walked_text, Writing.WritesFor}
 use Rattle.segment_values.specs.Contents.{content_of, count_of_content}
 use Rattle.segment_values.specs.Layouts.{Spelling, count_at, laid_at, laid_object, laid_out}
 use Rattle.segment_values.proofs.Laid.{laid-made, parts-laid}
 use Rattle.segment_values.proofs.LaidElements.{count_of_object, length-made}
+use Rattle.segment_values.proofs.{Located.bound-map, Owed.of-none, Owed.of-one}
 
 record ArePairs (k v : ScalarKind) (w : Value) : Type 0 where
   pairs : List NumberPair
@@ -56,12 +61,56 @@ module _ (s : SegmentState) (o : Located) (l : IsLocated s (ByHandle o.handle) o
       ∙ sym (ap (part_of (laid_object sp)) f.is ∙ ap (λ u. laid_out sp (content_of u)) w.is)
 
 -- the first pair is the one from the least map key on
-pub first-of-kinds : (s : SegmentState) (key : Key) (k v : ScalarKind) → IsMap s key k v → (x : ScalarValue)
-    → kind_of_scalar x ≡ k → value_of_scalar x ≡ lowest k → (o : Option KindedPair)
+pub first-of-kinds : {s : SegmentState} {o : Located} {k v : ScalarKind} → IsBound (Map k v) o s → (x : ScalarValue)
+    → kind_of_scalar x ≡ k → value_of_scalar x ≡ lowest k → (p : Option KindedPair)
     → AnswersWith s (λ d. option_map (item_of_kinds (kind_of_scalar x) v)
-    (pair_past false (value_of_scalar x) (pairs_at d key))) o
-    → AnswersWith s (λ d. option_map (item_of_kinds k v) (option_map item_of (first_of (pairs_at d key)))) o
-first-of-kinds s key k v m x kind_is value_is o a = first-walked s key k v m o
-    (subst (λ z. AnswersWith s (λ d. option_map (item_of_kinds k v) (pair_past false z (pairs_at d key))) o) value_is
-    (subst (λ j. AnswersWith s (λ d. option_map (item_of_kinds j v)
-    (pair_past false (value_of_scalar x) (pairs_at d key))) o) kind_is a))
+    (pair_past false (value_of_scalar x) (pairs_at d (ByHandle o.handle)))) p
+    → AnswersWith s (λ d. option_map (item_of_kinds k v)
+    (option_map item_of (first_of (pairs_at d (ByHandle o.handle))))) p
+first-of-kinds {s} {o} {k} {v} b x kind_is value_is p a = first-walked s (ByHandle o.handle) k v (bound-map b) p
+    (subst (λ z. AnswersWith s (λ d. option_map (item_of_kinds k v) (pair_past false z (pairs_at d (ByHandle
+    o.handle)))) p) value_is (subst (λ j. AnswersWith s (λ d. option_map (item_of_kinds j v)
+    (pair_past false (value_of_scalar x) (pairs_at d (ByHandle o.handle)))) p) kind_is a))
+
+-- ---- a walk from pair to pair
+
+-- what is read from a bound on is the pair with an index
+abbrev pub LeadsTo : SegmentState → ℕ → ScalarKind → ScalarKind → Bool → ScalarValue → ℕ → Type 0
+LeadsTo s h k v above x i = (r : Option (ScalarValue × ScalarValue))
+    → AnswersWith s (λ d. option_map (item_of_kinds (kind_of_scalar x) v)
+    (pair_past above (value_of_scalar x) (pairs_at d (ByHandle h)))) (option_map item_seen r) → IsNext s h k v r i
+
+-- the least map key leads to the first pair
+pub leads-first : {s : SegmentState} {o : Located} {k v : ScalarKind} → IsBound (Map k v) o s → (x : ScalarValue)
+    → kind_of_scalar x ≡ k → value_of_scalar x ≡ lowest k → LeadsTo s o.handle k v false x 0
+leads-first {s} {o} {k} {v} b x kind_is value_is = λ r a.
+    next-first s o.handle k v r (first-of-kinds b x kind_is value_is (option_map item_seen r) a)
+
+module _ (s : SegmentState) (h : ℕ) (k v : ScalarKind) (i : ℕ) where
+  -- the pair that is read is the pair with the index
+  pub led : (above : Bool) (x : ScalarValue) (r p : Option (ScalarValue × ScalarValue)) → LeadsTo s h k v above x i
+      → AnswersWith s (λ d. option_map (item_of_kinds (kind_of_scalar x) v)
+      (pair_past above (value_of_scalar x) (pairs_at d (ByHandle h)))) (option_map item_seen r) → r ≡ p
+      → IsNext s h k v p i
+  led above x r p to a is = subst (λ q. IsNext s h k v q i) is (to r a)
+
+  -- the map key of a pair leads to the next one
+  pub leads-next : (x y : ScalarValue) → IsNext s h k v (Some (x, y)) i → LeadsTo s h k v true x (i + 1)
+  leads-next x y n = λ r a. next-behind s h k v i x y n r a
+
+  -- behind the last pair a bound leads to none
+  pub leads-none : (above : Bool) (x : ScalarValue) → LeadsTo s h k v above x i → IsNext s h k v None i
+      → LeadsTo s h k v above x (i + 1)
+  leads-none above x to n = λ r a d l. to r a d l ∙ sym (n d l) ∙ next-none s h k v i n d l
+
+  module _ (sp : Spelling) where
+    -- the text of the pair is the part with the index
+    pub pair-owed : {A E : Type 0} {old new : WriterHistory} {result : Result A E} (x y : ScalarValue)
+        → IsNext s h k v (Some (x, y)) i → Writes old new result (walked_text sp i (item_seen (x, y)))
+        → WritesFor old new result (DenotesCurrent s.cut.bytes) (λ d. pair_part sp k v d (ByHandle h) i)
+    pair-owed x y n w = of-one w (pair-said s h k v i x y n (walked_text sp i))
+
+    -- without a pair the part is empty
+    pub none-owed : {old : WriterHistory} → IsNext s h k v None i
+        → WritesFor old old well (DenotesCurrent s.cut.bytes) (λ d. pair_part sp k v d (ByHandle h) i)
+    none-owed n = of-none (λ d l. sym (none-text s h k v i n (walked_text sp i) d l))

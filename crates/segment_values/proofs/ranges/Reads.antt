@@ -7,14 +7,13 @@ use Rattle.std.proofs.lemmas.Bool.{leb-true}
 use Rattle.seg_types.specs.declared.kinds.ScalarKind.{ScalarKind}
 use Rattle.seg_types.specs.declared.refusals.Refusal.{Refusal}
 use Rattle.seg_types.specs.declared.refusals.Refusal.TheVariants.{NotFound, OutOfRange, WrongKind}
-use Rattle.seg_types.specs.Names.{Key, ByHandle}
+use Rattle.seg_types.specs.Names.{ByHandle}
 use Rattle.segment_manager.specs.declared.objects.object_ref.Object.{Object as Located}
 use Rattle.segment_manager.specs.Directory.{Object, Directory, kind_of}
 use Rattle.segment_manager.specs.objects.ElementLists.{numbers_in}
-use Rattle.segment_manager.specs.objects.Instances.{IsMissing}
 use Rattle.segment_manager.specs.objects.Located.{IsLocated}
 use Rattle.segment_manager.specs.State.{AnswersWith, SegmentState, DenotesCurrent}
-use Rattle.segment_manager.proofs.Laws.{IsSaidAt, said-at, told-by_key}
+use Rattle.segment_manager.proofs.Laws.{IsSaidAt, said-at}
 use Rattle.segment_values.specs.Ranges.{is_slice, numbers_if, range_at, range_in, range_of, slice_of}
 use Rattle.segment_values.proofs.ranges.Slices.{its-numbers}
 
@@ -85,16 +84,3 @@ module _ (s : SegmentState) (o : Located) (l : IsLocated s (ByHandle o.handle) o
   pub no-reads : is_slice k o.kind ≡ false → AnswersWith s (λ d. range_at d (ByHandle o.handle) k first n) (Err
       WrongKind)
   no-reads series = record { answers = λ d st. sym (told-here d st false series) }
-
--- a result for the handle is the result for the key
-pub reads-by_key : (s : SegmentState) (key : Key) (o : Located) → IsLocated s key o
-    → (k : ScalarKind) (first n : ℕ) (r : Result (List ℤ) Refusal)
-    → AnswersWith s (λ d. range_at d (ByHandle o.handle) k first n) r
-    → AnswersWith s (λ d. range_at d key k first n) r
-reads-by_key s key o l k first n r a = told-by_key s key o l (λ d p. told k first n p) r a
-
--- no object has the key
-pub reads-missing : (s : SegmentState) (key : Key) (why : Refusal) → IsMissing s key why
-    → (k : ScalarKind) (first n : ℕ) → AnswersWith s (λ d. range_at d key k first n) (Err why)
-reads-missing s key why m k first n =
-    record { answers = λ d st. ap (λ (w : Refusal). Err w) m.is ∙ sym (ap (told k first n) (m.missing d st)) }

@@ -1,8 +1,12 @@
 -- The object of the handle has the kind or not.
-use Rattle.segment_manager.proofs.Common.{subst, ByHandle, IsLocated}
-use Rattle.segment_manager.proofs.bound.ByKey.{of-located}
+use Rattle.segment_manager.proofs.Common.{ByHandle}
+use Rattle.segment_manager.proofs.bound.ByKey.{of-found}
+use Rattle.segment_manager.proofs.objects.{KeyCalls.handle-answers, OwnEntries.has-own_object}
 use Rattle.segment_manager.proofs.bound.object_of_kind.Goals as goal
 
+pub read_of_kind-requires : goal.read_of_kind-requires
+read_of_kind-requires c = has-own_object c.segment.view_is c.args.handle c.segment.invariant c.requires
+
 pub returns-clause-location : goal.returns-clause-location
-returns-clause-location c = of-located (subst (λ h. IsLocated c.args.segment.now (ByHandle h) c.object_here.result)
-    c.object_here.ensures.handle c.object_here.ensures.location) c.args.kind c.of_kind.result c.of_kind.ensures
+returns-clause-location c = of-found c.segment.view_is (ByHandle c.args.handle) c.args.kind c.read_of_kind.result
+    c.segment.invariant (handle-answers c.args.handle c.requires) c.read_of_kind.ensures.object

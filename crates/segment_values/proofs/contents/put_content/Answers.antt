@@ -1,15 +1,14 @@
 use Rattle.std.proofs.Common.{ap, ◌∙◌}
 use Rattle.seg_types.specs.Names.{ByHandle}
 use Rattle.segment_manager.specs.Parts.{parts_until}
-use Rattle.segment_manager.proofs.CommandLaws.{says-kind}
 use Rattle.segment_values.specs.Layouts.{part_at}
 use Rattle.segment_values.proofs.Owed.{of-same}
 use Rattle.segment_values.proofs.LaidElements.{parts-at}
 use Rattle.segment_values.proofs.pairs.Walk.{map-said}
 use Rattle.segment_values.proofs.contents.put_content.Goals as goal
 
-pub put_pairs-requires-clause-map : goal.put_pairs-requires-clause-map
-put_pairs-requires-clause-map g c = says-kind c.requires.object c.in-Map.is
+pub put_pairs-requires-clause-object : goal.put_pairs-requires-clause-object
+put_pairs-requires-clause-object g c = record { there = c.requires.object.here; of_kind = c.in-Map.is }
 
 pub returns-in-Map : goal.returns-in-Map
 returns-in-Map g c =

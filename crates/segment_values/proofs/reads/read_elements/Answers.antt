@@ -1,15 +1,26 @@
--- What the object of the key has under its handle it has under the key.
-use Rattle.std.proofs.Common.{length}
-use Rattle.segment_values.specs.Ranges.{read_into}
-use Rattle.segment_values.proofs.ranges.Reads.{reads-by_key}
+use Rattle.std.proofs.Common.{length, sym}
+use Rattle.segment_values.specs.Ranges.{slice_of}
+use Rattle.segment_values.proofs.Located.{of-handle}
+use Rattle.segment_values.proofs.ranges.Reads.{no-reads, range-read, range-refused, series-reads}
 use Rattle.segment_values.proofs.reads.read_elements.Goals as goal
 
-pub read_object-requires : goal.read_object-requires
-read_object-requires g c = c.in_ok-object.ensures.here
+pub returns-then-not-is_slice-clause-read : goal.returns-then-not-is_slice-clause-read
+returns-then-not-is_slice-clause-read g c =
+    no-reads c.args.segment.now c.args.object (of-handle c.requires) g.T.Scalar.kind c.args.first
+    (length c.args.series.now) (sym c.if-not-is_slice.ensures)
+
+pub returns-then-not-has_range-clause-read : goal.returns-then-not-has_range-clause-read
+returns-then-not-has_range-clause-read g c =
+    series-reads c.args.segment.now c.args.object (of-handle c.requires) g.T.Scalar.kind c.args.first (length
+    c.args.series.now) _
+    (sym c.if-not-is_slice.ensures)
+    (range-refused c.args.segment.now (slice_of c.args.object) c.args.first (length c.args.series.now) _
+    c.slice_run-run.ensures.many (sym c.if-not-has_range.ensures))
 
 pub returns-clause-read : goal.returns-clause-read
 returns-clause-read g c =
-    reads-by_key c.args.segment.now (g.O.ObjectRef.key c.args.key.now) c.in_ok-object.object c.in_ok-object.ensures
-    g.T.Scalar.kind c.args.first (length c.args.series.now)
-    (read_into g.T.Scalar.whole c.read_object.new.series c.read_object.result)
-    c.read_object.ensures.read
+    series-reads c.args.segment.now c.args.object (of-handle c.requires) g.T.Scalar.kind c.args.first (length
+    c.args.series.now) _
+    (sym c.if-not-is_slice.ensures)
+    (range-read c.args.segment.now (slice_of c.args.object) c.args.first (length c.args.series.now) _
+    c.slice_run-run.ensures.many _ (sym c.if-not-has_range.ensures) c.copy_slice.ensures)

@@ -5,6 +5,5 @@ use Rattle.segment_values.proofs.pairs.Walk.{first-of-kinds}
 use Rattle.segment_values.proofs.walking.first_pair.Goals as goal
 
 pub returns : goal.returns
-returns g c = first-of-kinds c.args.segment.now (g.O.ObjectRef.key c.args.key.now) c.args.keys c.args.values
-    c.requires.map c.least.result c.least.ensures.kind c.least.ensures.value
-    (option_map item_seen c.pair_of_key.result) c.pair_of_key.ensures
+returns c = first-of-kinds c.requires c.least.result c.least.ensures.kind c.least.ensures.value
+    (option_map item_seen c.pair_past.result) c.pair_past.ensures.pair

@@ -1,5 +1,5 @@
 -- The node is unlinked from the tree, the three words are written, and its block is freed.
-use Rattle.seg_map.proofs.{refl, ap, ℕ, ◌+◌, ◌-◌, ◌*◌, ◌≤◌, None, arith, laws, can_unlink, erased, few_steps, gone_live}
+use Rattle.seg_map.proofs.{refl, ap, ◌-◌, None, arith, laws, can_unlink, erased, few_steps, gone_live}
 use Rattle.seg_map.proofs.{kept_proper, kept_room, lent_tree, live_laid, own_nodes, relinked, removed_length, taken}
 use Rattle.seg_map.proofs.{rules, top_whole, Relinked, maps.SegMap.unlink_pair.Goals.After-add}
 use Rattle.link_tree.specs.Nodes.{without}

@@ -1,7 +1,6 @@
 -- The object of the key is read.
 use Rattle.segment_manager.proofs.{Common.subst, Common.current, Common.SaysOf, directory.HeapCalls.denotes-heap}
 use Rattle.segment_manager.proofs.{objects.Here.seen-handle, objects.Here.seen-object, objects.KeyCalls.key-says}
-use Rattle.segment_manager.proofs.objects.Locating.{handle-located}
 use Rattle.segment_manager.proofs.segment.Segment.instance.Goals as goal
 
 pub read_instance-requires-clause-heap : goal.read_instance-requires-clause-heap
@@ -11,10 +10,10 @@ read_instance-requires-clause-heap g c =
 pub read_instance-requires-clause-object : goal.read_instance-requires-clause-object
 read_instance-requires-clause-object g c =
     seen-object _ _ c.self.view_is (g.O.ObjectRef.key c.args.key.now) _ c.self.invariant
-    (handle-located _ c.in-Some.ensures)
+    c.in-Some.ensures
 
 pub returns-in-Some : goal.returns-in-Some
 returns-in-Some g c =
     subst (λ t. SaysOf t (g.O.ObjectRef.key c.args.key.now) c.read_instance.result) c.self.view_is (key-says
     (seen-handle _ _ c.self.view_is (g.O.ObjectRef.key c.args.key.now) _
-    (handle-located _ c.in-Some.ensures)) c.read_instance.ensures)
+    c.in-Some.ensures) c.read_instance.ensures)

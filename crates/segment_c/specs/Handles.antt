@@ -32,8 +32,8 @@ pub record ReadsHandle (wrong code : ℕ) (old new : SegmentSlot) (P : SegmentSt
   pub marks : new.marks ≡ old.marks
 
 -- a call that asks the segment by a command, and says the answer if the code is 0
-pub record AsksFor {A : Type 0} (say : A → Answer) (c : Command) (code : ℕ) (before after : SegmentSlot) (old new : A)
-    : Type 0
+pub record AsksSegment {A : Type 0} (say : A → Answer) (c : Command) (code : ℕ) (before after : SegmentSlot)
+    (old new : A) : Type 0
   where
     pub call : AsksHandle 0 code before after (λ s t. AnswersQuery s c (answer_for code (say new)))
     pub outputs_on_error : 1 ≤ code → new ≡ old

@@ -65,7 +65,7 @@ abbrev pub size_said : List ℕ → ℕ
 size_said image = if nat_le 24 (length image) && has_front current image then size_word image else 0
 
 -- a call that opens an image in a region of its own: the handle is as it was unless the code is 0
-pub record OpensImage (image : List ℕ) (capacity mode code : ℕ) (old new : SegmentSlot) : Type 0 where
+pub record OpensInHandle (image : List ℕ) (capacity mode code : ℕ) (old new : SegmentSlot) : Type 0 where
   pub stop : RefusesArgument (or_else (capacity_wrong capacity) (mode_wrong mode)) code old.segment.value
       new.segment.value
   pub opening : code ≡ 0 → HoldsSegment new.segment.value (λ t. IsImageOpened image capacity (mode_of mode) t)

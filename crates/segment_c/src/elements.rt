@@ -20,7 +20,7 @@ use crate::values::CScalar;
 use seg_types::{Handle, Key, Kind, Refusal, ScalarKind, ScalarValue, by_kind};
 use segment_manager::unchecked::object_here;
 use segment_manager::{Segment, is_remembered, locate, push_within};
-use segment_values::{InsertSpot, get, get_element};
+use segment_values::{InsertSpot, add_scalar, get, get_element};
 use std::alloc::Global;
 
 /// Returns the element at `index` in the object of a key: of scalars, of a vector of scalars, or of a string, which has
@@ -105,7 +105,7 @@ pub extern "C" fn zx_push(
 }
 
 /// Puts a number after the last element of the vector of a handle, which can be any number, as `zx_push` does. It packs
-/// no key and no value. It is not inlined, and what it calls within the capacity is, since only one function makes those
+/// no key and no value. It is not inlined, and what it calls within the capacity is: only one function makes those
 /// calls.
 #[inline(never)]
 #[unsafe(no_mangle)]
@@ -123,8 +123,8 @@ pub extern "C" fn zx_push_i64(alloc: Global, h: &mut SegmentSlot, handle: u64, n
     push_any(alloc, h, &ObjectKey::of_handle(handle), &value)
 }
 
-/// Puts a number after the last element of the vector of a handle, and returns true, if the handle is remembered and the
-/// vector is of `i64` with room. Otherwise nothing changes.
+/// Puts a number after the last element of the vector of a handle, and returns true, if the handle is remembered and
+/// the vector is of `i64` with room. Otherwise nothing changes.
 #[inline(always)]
 fn push_here(segment: &mut Segment, handle: Handle, number: i64) -> bool
     ensures step { result ≡ true → TakesStep segment.old segment.new (Push (ByHandle handle) (Integer number)) Done }
@@ -140,8 +140,24 @@ fn push_any(alloc: Global, h: &mut SegmentSlot, key: &ObjectKey<'_>, value: &CSc
         (λ s t. TakesStep s t (Push (key_of key.now) (literal_in value.now)) (answer_for result Done)) }
 {
     let (which, new, mut segment) = passed!(enter_with(alloc, h, key, value));
-    let answer = add(&mut segment, &which, InsertSpot::End, new);
+    let answer = push(&mut segment, &which, new);
     done(answer, h, segment)
+}
+
+/// Puts a value after the last element of the vector of a key in a segment. It looks the vector up once if that is of
+/// the value's own kind.
+fn push(segment: &mut Segment, key: &Key, value: ScalarValue) -> Result<(), Refusal>
+    ensures step { TakesStep segment.old segment.new (Push (key_seen key.now) (literal_seen value))
+        (done_answer result) }
+    ensures refused { OnErr result (segment.new ≡ segment.old) }
+{
+    match add_scalar(segment, key, InsertSpot::End, value) {
+        Ok(()) => Ok(()),
+        Err(why) => match why {
+            Refusal::WrongKind => add(segment, key, InsertSpot::End, value),
+            _ => Err(why),
+        },
+    }
 }
 
 /// Puts a value where `index` others stand before it in the vector of a key.

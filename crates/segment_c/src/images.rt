@@ -1,23 +1,19 @@
 //! Segments made, opened, looked at, saved and closed.
-ghost use Rattle.std.specs.Prelude.{◌≡◌, ◌≢◌, ◌≤◌, ◌⊎◌, ◌↔◌, ◌+◌, IfErr, IfOk, IsTrue, MatchOption, MatchResult, false};
-ghost use Rattle.std.specs.Prelude.{length, min};
+ghost use Rattle.std.specs.Prelude.{◌≡◌, ◌≢◌, ◌≤◌, ◌⊎◌, ◌↔◌, ◌+◌, IfErr, IfOk, IsTrue, MatchOption, MatchResult};
 ghost use Rattle.std.specs.declared.option.Option.TheVariants.{None, Some};
+ghost use Rattle.std.specs.Prelude.{false, length, min};
 ghost use Rattle.block_tags.specs.Format.{is_legal_size};
 ghost use Rattle.image_check.specs.{Classes.number_of, declared.errors.OpenError.TheVariants.ReadFault};
-ghost use Rattle.raw_region.specs.Memory.{zeros};
-ghost use Rattle.raw_region.specs.Regions.{IsCapacity};
+ghost use Rattle.raw_region.specs.{Memory.zeros, Regions.IsCapacity};
 ghost use Rattle.seg_types.specs.Commands.{Free, Size};
-ghost use Rattle.segment_c.specs.{Calls.HoldsSegment, Handles.AsksFor, Handles.AsksHandle};
-ghost use Rattle.segment_c.specs.Codes.{answer_for};
+ghost use Rattle.segment_c.specs.Opening.{IsImageOpened, IsNoImage, IsPlaced, IsWhyNotOpened, OpensInHandle};
 ghost use Rattle.segment_c.specs.Images.{CopiesOut, mode_code, mode_of, mode_wrong};
-ghost use Rattle.segment_c.specs.Marked.{PlacesSegment, placed};
-ghost use Rattle.segment_c.specs.Opening.{IsImageOpened, IsNoImage, IsPlaced, IsWhyNotOpened, OpensImage};
-ghost use Rattle.segment_c.specs.Opening.{code_of_cause, place_of_cause, size_said};
+ghost use Rattle.segment_c.specs.{Codes.answer_for, Opening.code_of_cause, Opening.place_of_cause, Opening.size_said};
+ghost use Rattle.segment_c.specs.{Handles.AsksHandle, Handles.AsksSegment, Marked.placed, Marked.PlacesSegment};
+ghost use Rattle.segment_c.specs.Calls.{HoldsSegment};
+ghost use Rattle.segment_manager.specs.{Calls.CreatesOk, State.AnswersQuery, State.IsSegment, State.SegmentState};
+ghost use Rattle.segment_manager.specs.{blocks.Resized.room_behind, declared.modes.Mode.TheVariants.Write};
 ghost use Rattle.segment_manager.specs.Answers.{Number};
-ghost use Rattle.segment_manager.specs.Calls.{CreatesOk};
-ghost use Rattle.segment_manager.specs.blocks.Resized.{room_behind};
-ghost use Rattle.segment_manager.specs.State.{AnswersQuery, IsSegment, SegmentState};
-ghost use Rattle.segment_manager.specs.declared.modes.Mode.TheVariants.{Write};
 
 use crate::calls::passed;
 use crate::codes::{
@@ -61,7 +57,7 @@ pub extern "C" fn zx_close(alloc: Global, h: &mut SegmentSlot)
 /// Returns the number of bytes in the segment.
 #[unsafe(no_mangle)]
 pub extern "C" fn zx_size(alloc: Global, h: &mut SegmentSlot, size: &mut u64) -> u32
-    ensures call { AsksFor Number Size result h.old h.new size.old size.new }
+    ensures call { AsksSegment Number Size result h.old h.new size.old size.new }
 {
     let segment = passed!(take(alloc, h));
     *size = segment.size();
@@ -71,7 +67,7 @@ pub extern "C" fn zx_size(alloc: Global, h: &mut SegmentSlot, size: &mut u64) ->
 /// Returns the bytes of all gaps, their tags included.
 #[unsafe(no_mangle)]
 pub extern "C" fn zx_free_bytes(alloc: Global, h: &mut SegmentSlot, free_bytes: &mut u64) -> u32
-    ensures call { AsksFor Number Free result h.old h.new free_bytes.old free_bytes.new }
+    ensures call { AsksSegment Number Free result h.old h.new free_bytes.old free_bytes.new }
 {
     let segment = passed!(take(alloc, h));
     *free_bytes = segment.free();
@@ -169,7 +165,7 @@ pub extern "C" fn zx_open(
     capacity: u64,
     mode: u32,
 ) -> u32
-    ensures opening { OpensImage image.now capacity mode result h.old h.new }
+    ensures opening { OpensInHandle image.now capacity mode result h.old h.new }
 {
     zx_open_explained(alloc, h, image, capacity, mode, &mut 0)
 }
@@ -184,7 +180,7 @@ pub extern "C" fn zx_open_explained(
     mode: u32,
     place: &mut u64,
 ) -> u32
-    ensures opening { OpensImage image.now capacity mode result h.old h.new }
+    ensures opening { OpensInHandle image.now capacity mode result h.old h.new }
     ensures place { IsPlaced image.now result place.old place.new }
 {
     if !is_capacity(capacity) {

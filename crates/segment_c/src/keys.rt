@@ -1,9 +1,8 @@
 //! The keys that C passes.
 ghost use Rattle.std.specs.Prelude.{◌≡◌, ◌≢◌, ◌≤◌, IfSome, MatchResult};
-ghost use Rattle.seg_types.specs.Keys.{index_key_seen, key_seen};
-ghost use Rattle.seg_types.specs.Names.{ByHandle, NoKey};
+ghost use Rattle.seg_types.specs.{Keys.index_key_seen, Keys.key_seen, Names.ByHandle, Names.NoKey};
 ghost use Rattle.segment_c.specs.Passed.{entry_of, entry_wrong, key_of, key_wrong};
-ghost use Rattle.segment_manager.specs.objects.{NewObjects.IsOfKind};
+ghost use Rattle.segment_manager.specs.objects.NewObjects.{IsOfKind};
 
 use crate::codes::{BAD_KEY, BAD_KIND, BAD_NAME, NULL_SLICE};
 use seg_types::{Handle, IndexKey, Key, Kind, Name};

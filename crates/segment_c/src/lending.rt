@@ -1,11 +1,9 @@
 //! Segments in memory that C lends, as in a file that it mapped: they stand there, and no byte of them is copied.
 ghost use Rattle.std.specs.Prelude.{◌≡◌, ◌≢◌, ◌≤◌, List, [], MatchResult, false, if◌then◌else◌, length, true};
 ghost use Rattle.std.specs.declared.option.Option.TheVariants.{None as NoSegment, Some as Held};
-ghost use Rattle.raw_region.specs.Memory.{part, whole};
-ghost use Rattle.raw_region.specs.Regions.{IsCapacity};
-ghost use Rattle.segment_c.specs.{Calls.RefusesClosed, Marked.PlacesSegment};
-ghost use Rattle.segment_c.specs.Lending.{IsOpenedHere, OpensHere, memory_wrong};
-ghost use Rattle.segment_c.specs.Opening.{IsPlaced, IsWhyNotOpened};
+ghost use Rattle.raw_region.specs.{Memory.part, Memory.whole, Regions.IsCapacity};
+ghost use Rattle.segment_c.specs.{Lending.IsOpenedHere, Lending.memory_wrong, Lending.OpensHere, Marked.PlacesSegment};
+ghost use Rattle.segment_c.specs.{Calls.RefusesClosed, Opening.IsPlaced, Opening.IsWhyNotOpened};
 ghost use Rattle.segment_manager.specs.State.{SegmentState};
 
 use crate::calls::passed;

@@ -1,19 +1,14 @@
 //! What objects say of themselves, by key and one after another, and the blocks and gaps.
-ghost use Rattle.std.specs.Prelude.{◌≡◌, ◌≤◌, slice_get};
 ghost use Rattle.std.specs.declared.option.Option.TheVariants.{None, Some};
+ghost use Rattle.std.specs.Prelude.{◌≡◌, ◌≤◌, slice_get};
 ghost use Rattle.best_fit.specs.Extents.{spans};
-ghost use Rattle.seg_types.specs.Commands.{NumNamed, NumUnique};
-ghost use Rattle.seg_types.specs.Keys.{key_seen};
-ghost use Rattle.seg_types.specs.Kinds.{class_code};
-ghost use Rattle.segment_c.specs.Handles.{AsksFor, AsksHandle, ReadsHandle};
-ghost use Rattle.segment_c.specs.Codes.{answer_for};
+ghost use Rattle.seg_types.specs.{Commands.NumNamed, Commands.NumUnique, Keys.key_seen, Kinds.class_code};
 ghost use Rattle.segment_c.specs.Lists.{IsInfo, WritesInfo, TellsAlone, TellsBlock, WritesInfoOf, use_code};
+ghost use Rattle.segment_c.specs.{Codes.answer_for, Handles.AsksHandle, Handles.AsksSegment, Handles.ReadsHandle};
 ghost use Rattle.segment_c.specs.Passed.{key_of, key_wrong};
-ghost use Rattle.segment_manager.specs.Answers.{Number};
 ghost use Rattle.segment_manager.specs.Directory.{Directory, Object, live, named_objects, object_at, unique_objects};
-ghost use Rattle.segment_manager.specs.indexes.NamesFrom.{IsFirstFrom};
-ghost use Rattle.segment_manager.specs.objects.Instances.{IsInstance};
-ghost use Rattle.segment_manager.specs.State.{AnswersQuery, DenotesCurrent};
+ghost use Rattle.segment_manager.specs.{indexes.NamesFrom.IsFirstFrom, State.AnswersQuery, State.DenotesCurrent};
+ghost use Rattle.segment_manager.specs.{Answers.Number, objects.Instances.IsInstance};
 
 use crate::calls::{enter, passed};
 use crate::codes::{DONE, NOT_FOUND, OUT_OF_RANGE, SHORT_BUFFER};
@@ -241,7 +236,7 @@ pub extern "C" fn zx_tile_at(
 /// Returns the number of objects with names.
 #[unsafe(no_mangle)]
 pub extern "C" fn zx_num_named(alloc: Global, h: &mut SegmentSlot, count: &mut u64) -> u32
-    ensures call { AsksFor Number NumNamed result h.old h.new count.old count.new }
+    ensures call { AsksSegment Number NumNamed result h.old h.new count.old count.new }
 {
     let segment = passed!(take(alloc, h));
     *count = segment.num_named();
@@ -251,7 +246,7 @@ pub extern "C" fn zx_num_named(alloc: Global, h: &mut SegmentSlot, count: &mut u
 /// Returns the number of kinds with a unique object.
 #[unsafe(no_mangle)]
 pub extern "C" fn zx_num_unique(alloc: Global, h: &mut SegmentSlot, count: &mut u64) -> u32
-    ensures call { AsksFor Number NumUnique result h.old h.new count.old count.new }
+    ensures call { AsksSegment Number NumUnique result h.old h.new count.old count.new }
 {
     let segment = passed!(take(alloc, h));
     *count = segment.num_unique();

@@ -244,8 +244,45 @@ fn put_any(
     ensures outputs_on_error { 1 ≤ result → is_new.new ≡ is_new.old }
 {
     let (which, new_key, new_value, mut segment) = passed!(enter_pair(alloc, h, key, at, value));
-    let answer = segment_values::put_pair(&mut segment, &which, &new_key, &new_value);
+    let answer = put_pair(&mut segment, &which, new_key, new_value);
     truth(answer, is_new, h, segment)
+}
+
+/// Puts a value at a key of the map of a key in a segment, and returns true if that is new.
+fn put_pair(
+    segment: &mut Segment,
+    key: &Key,
+    at: ScalarValue,
+    value: ScalarValue,
+) -> Result<bool, Refusal>
+    ensures step { TakesStep segment.old segment.new
+        (Put (key_seen key.now) (literal_seen at) (literal_seen value)) (truth_answer result) }
+    ensures refused { OnErr result (segment.new ≡ segment.old) }
+{
+    match (at, value) {
+        (ScalarValue::I64(number), ScalarValue::I64(new)) => put_numbers(segment, key, number, new),
+        _ => segment_values::put_pair(segment, key, &at, &value),
+    }
+}
+
+/// Puts a number at a number in the map of a key in a segment, and returns true if that is new. It looks the map up
+/// once if that is from `i64` to `i64`.
+#[inline(always)]
+fn put_numbers(segment: &mut Segment, key: &Key, at: i64, value: i64) -> Result<bool, Refusal>
+    ensures step { TakesStep segment.old segment.new (Put (key_seen key.now) (Integer at) (Integer value))
+        (truth_answer result) }
+    ensures refused { OnErr result (segment.new ≡ segment.old) }
+{
+    match segment.map_put::<i64, i64, Key>(key, at, value) {
+        Ok(is_new) => Ok(is_new),
+        Err(refusal) => match refusal {
+            Refusal::WrongKind => {
+                let (new_key, new_value) = (ScalarValue::I64(at), ScalarValue::I64(value));
+                segment_values::put_pair(segment, key, &new_key, &new_value)
+            }
+            _ => Err(refusal),
+        },
+    }
 }
 
 /// Takes a key out of the map of a key, and says whether it was there. If it was not, nothing changes.

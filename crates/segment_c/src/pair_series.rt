@@ -1,15 +1,14 @@
 //! Pairs of maps, several read by one call.
 ghost use Rattle.std.specs.Prelude.{◌≡◌, ◌≤◌, ◌+◌, int_lt, length, map, ℤ};
 ghost use Rattle.seg_map.specs.Listing.{pairs_past};
-ghost use Rattle.seg_types.specs.declared.kinds.{Kind.TheVariants.Map as MapOf, ScalarKind.TheVariants.I64};
-ghost use Rattle.seg_types.specs.{Keys.key_seen, Names.ByHandle, Written.literal_seen};
-ghost use Rattle.seg_types.specs.Values.{kind_of_scalar, value_of_scalar};
-ghost use Rattle.segment_c.specs.{Handles.ReadsHandle, Reads.IsCoded};
-ghost use Rattle.segment_c.specs.Passed.{key_of, key_wrong, literal_in, or_else, value_wrong};
+ghost use Rattle.seg_types.specs.{Names.ByHandle, Values.kind_of_scalar, Values.value_of_scalar, Written.literal_seen};
+ghost use Rattle.seg_types.specs.{declared.kinds.Kind.TheVariants.Map as MapOf, Keys.key_seen};
+ghost use Rattle.seg_types.specs.declared.kinds.ScalarKind.TheVariants.{I64};
 ghost use Rattle.segment_c.specs.Series.{FillsFrom, FillsSeries, ListsPairs, bits_of, item_key, item_value};
-ghost use Rattle.segment_c.specs.Series.{pairs_from_at, written};
-ghost use Rattle.segment_manager.specs.{Directory.Directory, State.DenotesCurrent, objects.BoundObjects.IsBound};
-ghost use Rattle.segment_manager.specs.containers.Walks.{pairs_at_kinds};
+ghost use Rattle.segment_c.specs.Passed.{key_of, key_wrong, literal_in, or_else, value_wrong};
+ghost use Rattle.segment_c.specs.{Handles.ReadsHandle, Reads.IsCoded, Series.pairs_from_at, Series.written};
+ghost use Rattle.segment_manager.specs.{containers.Walks.pairs_at_kinds, objects.BoundObjects.IsBound};
+ghost use Rattle.segment_manager.specs.{Directory.Directory, State.DenotesCurrent};
 
 use crate::calls::{enter_with, passed};
 use crate::codes::{DONE, code_of};

@@ -2,14 +2,11 @@
 ghost use denote.RawPtr.{block_ptr};
 ghost use Rattle.std.specs.Prelude.{◌≡◌, ◌≤◌, IfOk};
 ghost use Rattle.seg_types.specs.{Keys.key_seen, Names.ByHandle};
-ghost use Rattle.segment_c.specs.{Calls.HoldsSegment, Calls.PerformsRead, Handles.ReadsHandle};
-ghost use Rattle.segment_c.specs.Marked.{LendsRange};
-ghost use Rattle.segment_c.specs.Passed.{key_of, key_wrong};
-ghost use Rattle.segment_c.specs.Reads.{IsCoded};
-ghost use Rattle.segment_c.specs.Views.{HasView, IsView, TellsView, writable};
-ghost use Rattle.segment_manager.specs.Directory.{Directory};
-ghost use Rattle.segment_manager.specs.State.{AnswersWith, DenotesCurrent};
+ghost use Rattle.segment_c.specs.{Handles.ReadsHandle, Views.HasView, Views.IsView, Views.TellsView, Views.writable};
+ghost use Rattle.segment_c.specs.{Calls.HoldsSegment, Calls.PerformsRead, Passed.key_of, Passed.key_wrong};
+ghost use Rattle.segment_c.specs.{Marked.LendsRange, Reads.IsCoded};
 ghost use Rattle.segment_manager.specs.containers.ElementRuns.{IsRunOf, run_at};
+ghost use Rattle.segment_manager.specs.{Directory.Directory, State.AnswersWith, State.DenotesCurrent};
 
 use crate::calls::{enter, passed};
 use crate::codes::{DONE, READ_ONLY, code_of};
@@ -46,7 +43,7 @@ pub extern "C" fn zx_view(
     key: &ObjectKey<'_>,
     view: &mut CView,
 ) -> u32
-    ensures view { TellsView (key_wrong key.now) (key_of key.now) result h.old h.new view.old view.new }
+    ensures elements { TellsView (key_wrong key.now) (key_of key.now) result h.old h.new view.old view.new }
 {
     match key.as_handle() {
         Some(handle) => zx_view_of(alloc, h, handle, view),
@@ -63,7 +60,7 @@ pub extern "C" fn zx_view_of(
     handle: u64,
     view: &mut CView,
 ) -> u32
-    ensures view { TellsView 0 (ByHandle handle) result h.old h.new view.old view.new }
+    ensures elements { TellsView 0 (ByHandle handle) result h.old h.new view.old view.new }
 {
     let segment = passed!(take(alloc, h));
     if is_remembered(&segment, handle) {
@@ -79,7 +76,7 @@ pub extern "C" fn zx_view_of(
 /// Says where the elements of the object of a key stand, for any form of key.
 #[inline(never)]
 fn view_any(alloc: Global, h: &mut SegmentSlot, key: &ObjectKey<'_>, view: &mut CView) -> u32
-    ensures view { TellsView (key_wrong key.now) (key_of key.now) result h.old h.new view.old view.new }
+    ensures elements { TellsView (key_wrong key.now) (key_of key.now) result h.old h.new view.old view.new }
 {
     let (which, segment) = passed!(enter(alloc, h, key));
     let run = segment.element_run(&which);

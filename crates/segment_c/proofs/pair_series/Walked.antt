@@ -1,16 +1,14 @@
 -- What a walk lists are the pairs of the located map.
-use Rattle.std.proofs.Common.{◌≡◌, sym, ap, ◌∙◌, ℕ, ◌≤◌, ℤ, Bool, List, length, map, take}
-use Rattle.std.proofs.Common.{drop, ◌++◌, min, arith, int_lt, Ok}
-use Rattle.std.proofs.Math.Seq.{take-append_seam}
+use Rattle.std.proofs.Common.{◌≡◌, sym, ap, ◌∙◌, ℕ, ◌≤◌, ℤ, Bool, List, length, map, take, drop, ◌++◌, min, arith}
 use Rattle.std.proofs.lemmas.List.{length-map, length-take, take-map, take_min}
+use Rattle.std.proofs.{Common.int_lt, Common.Ok, Math.Seq.take-append_seam}
 use Rattle.seg_map.specs.{Listing.pairs_past, Numbers.NumberPair, Places.item_of}
 use Rattle.seg_types.specs.declared.kinds.ScalarKind.{ScalarKind}
 use Rattle.segment_manager.proofs.Laws.{map-told, of-bound}
 use Rattle.segment_manager.specs.containers.Maps.{answer_of_map, count_read, number_item, pairs_read}
+use Rattle.segment_manager.specs.{Directory.Directory, State.AnswersWith, State.DenotesCurrent, State.SegmentState}
+use Rattle.segment_manager.specs.{declared.objects.object_ref.Object.Object as Located, objects.BoundObjects.key_of}
 use Rattle.segment_manager.specs.containers.Walks.{pairs_at_kinds}
-use Rattle.segment_manager.specs.declared.objects.object_ref.Object.{Object as Located}
-use Rattle.segment_manager.specs.{Directory.Directory, objects.BoundObjects.key_of}
-use Rattle.segment_manager.specs.State.{AnswersWith, DenotesCurrent, SegmentState}
 use Rattle.segment_c.specs.Series.{ListsPairs}
 
 module _ {K V : Type 0} (kw : K → ℤ) (vw : V → ℤ) {s t : SegmentState} {o q : Located} (is : q ≡ o) (same : t ≡ s)

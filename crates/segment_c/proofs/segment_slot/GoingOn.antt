@@ -2,18 +2,19 @@
 -- been taken and put back, and the arguments may be passed in another form.
 use Rattle.std.proofs.Common.{◌≡◌, ◌∙◌, ◌≤◌, ap, pos, refl, subst, sym, ℕ, ℤ, None, Option, Some}
 use Rattle.seg_types.specs.Commands.{Integer, Literal, literal_of}
-use Rattle.seg_types.specs.declared.kinds.ScalarKind.{ScalarKind}
-use Rattle.seg_types.specs.declared.kinds.ScalarKind.TheVariants.{I64}
+use Rattle.seg_types.specs.{declared.kinds.ScalarKind.ScalarKind, declared.kinds.ScalarKind.TheVariants.I64}
 use Rattle.segment_manager.specs.State.{SegmentState}
-use Rattle.segment_c.specs.{Passed.literal_in, Passed.scalar_in, Passed.value_wrong, declared.values.CScalar.CScalar}
+use Rattle.segment_c.specs.{declared.values.CScalar.CScalar, Passed.literal_in, Passed.scalar_in, Passed.value_wrong}
+use Rattle.segment_c.specs.{declared.segment_slot.SegmentSlot.SegmentSlot, Handles.AsksHandle, Handles.ChangesHandle}
 use Rattle.segment_c.specs.{Calls.HoldsSegment, Calls.PerformsCall, Marked.RaisesMoves}
-use Rattle.segment_c.specs.{Handles.AsksHandle, Handles.ChangesHandle, declared.segment_slot.SegmentSlot.SegmentSlot}
 
 -- a number that is passed
 module _ (v : CScalar) {n : ℤ} (e : scalar_in v ≡ Some (I64, n)) where
+  -- it is not refused
   pub number-right : value_wrong v ≡ 0
   number-right = ap (λ (q : Option (ScalarKind × ℤ)). elim q [ None ↦ 20 | Some s ↦ 0 ]) e
 
+  -- it is a literal
   pub number-is : literal_in v ≡ Integer n
   number-is = ap (λ (q : Option (ScalarKind × ℤ)). elim q as (λ _. Literal) [
     | None ↦ Integer (pos 0)

@@ -1,26 +1,23 @@
 -- The map of a key, and the next pair of it: what the directory says by the kind of the object.
 use Rattle.std.proofs.Common.{◌≡◌, ◌∙◌, refl, sym, ap, subst, ℕ, ℤ, List, Option, None, Some, Result, Ok, Err}
-use Rattle.std.proofs.Common.{option_map, Bool, true, false, []}
-use Rattle.std.proofs.lemmas.Bool.{eqb-true}
+use Rattle.std.proofs.{Common.[], Common.Bool, Common.false, Common.option_map, Common.true, lemmas.Bool.eqb-true}
 use Rattle.std.specs.Prelude.{if◌then◌else◌}
-use Rattle.seg_types.specs.{declared.kinds.Kind.Kind, declared.refusals.Refusal.Refusal, Commands.Literal}
-use Rattle.seg_types.specs.{Commands.value_of_literal, Names.Key}
 use Rattle.seg_types.specs.declared.kinds.Kind.TheVariants.{Map, Scalar, String, Strings, Vector}
-use Rattle.seg_types.specs.declared.kinds.ScalarKind.{ScalarKind}
 use Rattle.seg_types.specs.declared.refusals.Refusal.TheVariants.{NotFound, WrongKind}
-use Rattle.seg_map.specs.{Numbers.NumberPair}
-use Rattle.segment_manager.specs.{objects.Instances.IsMissing, containers.Maps.pair_above}
+use Rattle.seg_types.specs.{declared.kinds.ScalarKind.ScalarKind, Kinds.code_of, Kinds.kind_of_code, Kinds.same_kind}
+use Rattle.seg_types.specs.{Commands.Literal, Commands.value_of_literal, declared.refusals.Refusal.Refusal, Names.Key}
+use Rattle.seg_types.specs.declared.kinds.Kind.{Kind}
+use Rattle.seg_map.specs.Numbers.{NumberPair}
 use Rattle.segment_manager.specs.Directory.{Directory, Object, Pairs, Value, kind_of, object_at}
-use Rattle.segment_manager.specs.containers.Maps.{answer_of_map, told_of}
-use Rattle.seg_types.specs.Kinds.{code_of, kind_of_code, same_kind}
-use Rattle.seg_types.proofs.Laws.{code-read}
-use Rattle.segment_manager.specs.State.{AnswersWith, DenotesCurrent, SegmentState}
-use Rattle.segment_manager.specs.declared.objects.object_ref.Object.{Object as Located}
-use Rattle.segment_manager.specs.objects.{BoundObjects.key_of, Located.IsLocated}
-use Rattle.segment_manager.proofs.Laws.{kind-by_key, same-object, told-by_key}
 use Rattle.segment_manager.specs.containers.Walks.{KindedPair, pairs_at_kinds, pairs_of}
-use Rattle.segment_c.specs.declared.values.CScalar.{CScalar}
+use Rattle.segment_manager.specs.containers.Maps.{pair_above, answer_of_map, told_of}
+use Rattle.segment_manager.specs.State.{AnswersWith, DenotesCurrent, SegmentState}
+use Rattle.segment_manager.specs.{declared.objects.object_ref.Object.Object as Located, objects.Instances.IsMissing}
+use Rattle.segment_manager.specs.{objects.BoundObjects.key_of, objects.Located.IsLocated}
+use Rattle.seg_types.proofs.Laws.{code-read}
+use Rattle.segment_manager.proofs.Laws.{kind-by_key, same-object, told-by_key}
 use Rattle.segment_c.specs.Reads.{TellsPair, above_in, by_kinds, item_in, map_kinds, map_kinds_at, next_at, next_in}
+use Rattle.segment_c.specs.declared.values.CScalar.{CScalar}
 
 abbrev Kinds : Type 0
 Kinds = Result (ScalarKind × ScalarKind) Refusal
@@ -72,10 +69,12 @@ module _ (s : SegmentState) (key : Key) where
   -- what is told of a map by its kinds
   module _ {A : Type 0} (P : Result A Refusal → Type 0)
       (say : Directory → ScalarKind → ScalarKind → Result A Refusal) where
+    -- it has no kinds
     pub told-refused : (why : Refusal) → AnswersWith s (λ d. map_kinds_at d key) (Err why) → P (Err why)
         → (d : Directory) → DenotesCurrent s.cut.bytes d → P (by_kinds (say d) (map_kinds_at d key))
     told-refused why a p d st = subst P (ap (by_kinds (say d)) (a.answers d st)) p
 
+    -- it has these
     pub told-map : (k v : ScalarKind) → AnswersWith s (λ d. map_kinds_at d key) (Ok (k, v)) → (d : Directory)
         → DenotesCurrent s.cut.bytes d → P (say d k v) → P (by_kinds (say d) (map_kinds_at d key))
     told-map k v a d st p = subst P (ap (by_kinds (say d)) (a.answers d st)) p

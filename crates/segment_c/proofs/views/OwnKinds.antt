@@ -1,7 +1,7 @@
 -- A call for objects of the value's own kind, which is tried first.
 use Rattle.std.proofs.Common.{◌≡◌, refl, sym, ap, subst, ◌∙◌, Bool, true, false, ◌&&◌, Option, Some, None}
 use Rattle.std.specs.Prelude.{if◌then◌else◌}
-use Rattle.seg_types.specs.{Commands.Command, Commands.Literal, Commands.Push}
+use Rattle.seg_types.specs.{Commands.Command, Commands.Literal, Commands.Push, Commands.Put}
 use Rattle.seg_types.specs.{Commands.is_changing, Kinds.same_kind, Names.Key, declared.kinds.Kind.Kind}
 use Rattle.seg_types.specs.declared.refusals.Refusal.TheVariants.{ReadOnly, WrongKind}
 use Rattle.segment_manager.specs.{Answers.Answer, Answers.Refused, declared.modes.Mode.Mode}
@@ -81,3 +81,9 @@ pub pushed-step : (old new : SegmentState) (key : Key) (kind : Kind) (l : Litera
     → (a ≡ Refused WrongKind → ⊥) → TakesStepOfKind old new key kind (Push key l) a → TakesStep old new (Push key l) a
 pushed-step old new key kind l a not =
     own-step old new key kind (Push key l) (λ d. (_, refl)) a not
+
+-- a pair is put into a map of its own kinds
+pub put-step : (old new : SegmentState) (key : Key) (kind : Kind) (l m : Literal) (a : Answer)
+    → (a ≡ Refused WrongKind → ⊥) → TakesStepOfKind old new key kind (Put key l m) a → TakesStep old new (Put key l m) a
+put-step old new key kind l m a not =
+    own-step old new key kind (Put key l m) (λ d. (_, refl)) a not

@@ -1,15 +1,15 @@
-use Rattle.std.proofs.Common.{◌∙◌, ap, subst, sym, w64, Some}
-use Rattle.std.proofs.lemmas.Int.{to_z-of_z}
+use Rattle.segment_c.proofs.elements.zx_push_i64.Goals as goal
+use Rattle.std.proofs.{Common.ap, Common.Some, Common.subst, Common.sym, Common.w64, Common.◌∙◌, lemmas.Int.to_z-of_z}
 use Rattle.seg_types.specs.Commands.{Command, Integer, Push}
 use Rattle.segment_manager.specs.{Answers.Done, State.TakesStep}
 use Rattle.segment_c.specs.{Codes.answer_for, Passed.or_else}
 use Rattle.segment_c.proofs.segment_slot.GoingOn.{changes, number-is, number-right}
-use Rattle.segment_c.proofs.elements.zx_push_i64.Goals as goal
 
 pub returns : goal.returns
 returns c =
     let key = c.of_handle.ensures in
-    let number = number-is c.of-value.result c.of-value.ensures ∙ ap Integer (to_z-of_z w64 c.args.number c.ranges.number) in
+    let number = number-is c.of-value.result c.of-value.ensures
+    ∙ ap Integer (to_z-of_z w64 c.args.number c.ranges.number) in
     record {
       call = changes {old = c.args.h.now} {lent = c.put_taken_back-2.new.handle} {new = c.push_any.new.h}
           (λ i. or_else (key.0 i) (number-right c.of-value.result c.of-value.ensures i))

@@ -9,8 +9,9 @@ use Rattle.segment_c.proofs.views.Neighbours.{told-map, told-refused}
 
 pub returns-in-Err-clause-read : goal.returns-in-Err-clause-read
 returns-in-Err-clause-read c =
-    told-refused c.args.segment.now (key_seen c.args.key.now) (TellsPair c.args.at.now c.args.value.now c.code_of.result)
-    (λ d. first_in (pairs_at d (key_seen c.args.key.now))) c.in-Err.why c.in-Err.ensures.kinds c.code_of.ensures.number
+    told-refused c.args.segment.now (key_seen c.args.key.now)
+    (TellsPair c.args.at.now c.args.value.now c.code_of.result) (λ d. first_in (pairs_at d (key_seen c.args.key.now)))
+    c.in-Err.why c.in-Err.ensures.kinds c.code_of.ensures.number
 
 pub first_pair-requires : goal.first_pair-requires
 first_pair-requires c = record {

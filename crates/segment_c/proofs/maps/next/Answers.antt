@@ -10,7 +10,8 @@ use Rattle.segment_c.proofs.views.Neighbours.{told-map, told-refused}
 
 pub returns-in-Err-clause-read : goal.returns-in-Err-clause-read
 returns-in-Err-clause-read c =
-    told-refused c.args.segment.now (key_seen c.args.key.now) (TellsPair c.args.at.now c.args.value.now c.code_of-in-Err.result)
+    told-refused c.args.segment.now (key_seen c.args.key.now)
+    (TellsPair c.args.at.now c.args.value.now c.code_of-in-Err.result)
     (λ d. next_in (pairs_at d (key_seen c.args.key.now)) (literal_seen c.args.after)) c.in-Err.why
     c.in-Err.ensures.kinds c.code_of-in-Err.ensures.number
 

@@ -1,12 +1,10 @@
 -- The value is read from the handle's map.
 use Rattle.segment_c.proofs.maps.number_at.Goals as goal
-use Rattle.std.proofs.Common.{◌≡◌, ℤ, refl, subst, true, w64}
-use Rattle.std.proofs.lemmas.Int.{to_z-of_z}
-use Rattle.seg_types.specs.{Commands.Integer, Commands.Lookup, Kinds.is_value, declared.kinds.Kind.TheVariants.Map}
-use Rattle.seg_types.specs.declared.kinds.ScalarKind.TheVariants.{I64}
-use Rattle.seg_types.specs.declared.values.ScalarValue.TheVariants.{I64 as Number}
-use Rattle.segment_manager.specs.{State.AnswersQueryOfKind, containers.Maps.any_or_absent}
-use Rattle.segment_manager.specs.objects.BoundObjects.{key_of}
+use Rattle.std.proofs.{Common.refl, Common.subst, Common.true, Common.w64, Common.ℤ, Common.◌≡◌, lemmas.Int.to_z-of_z}
+use Rattle.seg_types.specs.{declared.kinds.Kind.TheVariants.Map, declared.values.ScalarValue.TheVariants.I64 as Number}
+use Rattle.seg_types.specs.{Commands.Integer, Commands.Lookup, declared.kinds.ScalarKind.TheVariants.I64}
+use Rattle.seg_types.specs.Kinds.{is_value}
+use Rattle.segment_manager.specs.{containers.Maps.any_or_absent, objects.BoundObjects.key_of, State.AnswersQueryOfKind}
 use Rattle.segment_manager.proofs.{CommandLaws.looks-up-key, ElementLaws.literal-read}
 
 -- the call passes its own number on

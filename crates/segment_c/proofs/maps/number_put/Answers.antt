@@ -1,10 +1,9 @@
-use Rattle.std.proofs.Common.{◌∙◌, ap, subst, sym, w64}
-use Rattle.std.proofs.lemmas.Int.{to_z-of_z}
+use Rattle.segment_c.proofs.maps.number_put.Goals as goal
+use Rattle.std.proofs.{Common.ap, Common.subst, Common.sym, Common.w64, Common.◌∙◌, lemmas.Int.to_z-of_z}
 use Rattle.seg_types.specs.Commands.{Command, Integer, Put}
 use Rattle.segment_manager.specs.{Answers.Boolean, State.TakesStep}
 use Rattle.segment_c.specs.{Codes.answer_for, Passed.or_else}
 use Rattle.segment_c.proofs.segment_slot.GoingOn.{changes, number-is, number-right}
-use Rattle.segment_c.proofs.maps.number_put.Goals as goal
 
 pub returns-clause-call : goal.returns-clause-call
 returns-clause-call c =
@@ -17,4 +16,5 @@ returns-clause-call c =
     (c.put_taken_back.ensures.marks ∙ c.take.ensures.marks)
     (λ s t r. subst (λ (it : Command). TakesStep s t it (answer_for c.put_any.result (Boolean c.put_any.new.is_new)))
     (λ i. Put (key.1 i) ((number-is c.of-at.result at ∙ ap Integer (to_z-of_z w64 c.args.at c.ranges.at)) i)
-    ((number-is c.of-value.result value ∙ ap Integer (to_z-of_z w64 c.args.value c.ranges.value)) i)) r) c.put_any.ensures.call
+    ((number-is c.of-value.result value ∙ ap Integer (to_z-of_z w64 c.args.value c.ranges.value)) i)) r)
+    c.put_any.ensures.call

@@ -1,11 +1,9 @@
 -- The pair is put into the handle's map.
 use Rattle.segment_c.proofs.maps.put_at.Goals as goal
-use Rattle.std.proofs.Common.{ℤ, of_z, subst, to_z, w64}
-use Rattle.std.proofs.lemmas.Int.{to_z-of_z}
-use Rattle.seg_types.specs.{Commands.Integer, Commands.Put, Names.ByHandle, declared.kinds.Kind.TheVariants.Map}
-use Rattle.seg_types.specs.declared.kinds.ScalarKind.TheVariants.{I64}
-use Rattle.segment_manager.specs.State.{TakesStepOfKind, truth_answer}
-use Rattle.segment_manager.specs.objects.BoundObjects.{key_of}
+use Rattle.std.proofs.{Common.of_z, Common.subst, Common.to_z, Common.w64, Common.ℤ, lemmas.Int.to_z-of_z}
+use Rattle.seg_types.specs.{declared.kinds.Kind.TheVariants.Map, declared.kinds.ScalarKind.TheVariants.I64}
+use Rattle.seg_types.specs.{Commands.Integer, Commands.Put, Names.ByHandle}
+use Rattle.segment_manager.specs.{objects.BoundObjects.key_of, State.TakesStepOfKind, State.truth_answer}
 use Rattle.segment_manager.proofs.Laws.{located-steps}
 
 -- the call passes its own numbers on

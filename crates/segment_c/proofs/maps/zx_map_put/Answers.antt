@@ -1,18 +1,17 @@
-use Rattle.std.proofs.Common.{refl, rules, subst, sym, w64}
-use Rattle.std.proofs.lemmas.Int.{to_z-of_z}
-use Rattle.seg_types.specs.Commands.{Command, Integer, Put}
-use Rattle.seg_types.specs.Names.{ByHandle}
+use Rattle.segment_c.proofs.maps.zx_map_put.Goals as goal
+use Rattle.std.proofs.{Common.refl, Common.rules, Common.subst, Common.sym, Common.w64, lemmas.Int.to_z-of_z}
+use Rattle.seg_types.specs.{Commands.Command, Commands.Integer, Commands.Put, Names.ByHandle}
 use Rattle.segment_manager.specs.{Answers.Boolean, State.SegmentState, State.TakesStep}
 use Rattle.segment_c.specs.{Codes.answer_for, Passed.or_else}
 use Rattle.segment_c.proofs.segment_slot.GoingOn.{changes, number-is, number-right}
-use Rattle.segment_c.proofs.maps.zx_map_put.Goals as goal
 
 pub returns-clause-call : goal.returns-clause-call
 returns-clause-call c =
     let it = c.in-Some-Some-Some in
     let at = number-is c.args.at.now it.ensures' in
     let value = number-is c.args.value.now it.ensures'' in
-    let step = λ (it : Command) (s t : SegmentState). TakesStep s t it (answer_for c.number_put.result (Boolean c.number_put.new.is_new))
+    let step = λ (it : Command) (s t : SegmentState).
+    TakesStep s t it (answer_for c.number_put.result (Boolean c.number_put.new.is_new))
     in
     changes {old = c.args.h.now} {lent = c.args.h.now} {new = c.number_put.new.h}
     (λ i. or_else (sym it.ensures.0 i) (or_else (sym (number-right c.args.at.now it.ensures') i)

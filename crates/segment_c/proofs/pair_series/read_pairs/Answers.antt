@@ -11,8 +11,8 @@ use Rattle.segment_c.proofs.pair_series.read_pairs.Goals as goal
 pub returns-in-Err-clause-read : goal.returns-in-Err-clause-read
 returns-in-Err-clause-read c = told-refused c.args.segment.now (key_seen c.args.key.now)
     (IsCoded (λ ps. FillsSeries ps c.args.keys.now c.args.keys.now c.args.values.now c.args.values.now c.args.read.now)
-    c.code_of-in-Err.result) (λ d. pairs_in d (key_seen c.args.key.now) c.args.past (literal_seen c.args.bound)) c.in-Err.why
-    c.in-Err.ensures.kinds c.code_of-in-Err.ensures.number
+    c.code_of-in-Err.result) (λ d. pairs_in d (key_seen c.args.key.now) c.args.past (literal_seen c.args.bound))
+    c.in-Err.why c.in-Err.ensures.kinds c.code_of-in-Err.ensures.number
 
 pub returns-in-Err-value_of-clause-read : goal.returns-in-Err-value_of-clause-read
 returns-in-Err-value_of-clause-read c = λ d st.
@@ -42,5 +42,6 @@ returns-in-Ok-value_of-clause-read c = λ d st.
       refl,
       subst (λ ps. fills (pairs_past int_lt c.args.past (value_of_scalar c.in-Ok-value_of.from) ps))
           (same-pairs c.args.segment.now key c.in-Ok.object c.in-Ok.ensures.map.0 _ c.in-Ok.of_values d st
-          ∙ ap (λ j. pairs_at_kinds d key j c.in-Ok.of_values) c.in-Ok-value_of.ensures.0) (c.read_of_kinds.ensures d st),
+          ∙ ap (λ j. pairs_at_kinds d key j c.in-Ok.of_values) c.in-Ok-value_of.ensures.0)
+          (c.read_of_kinds.ensures d st),
     ))

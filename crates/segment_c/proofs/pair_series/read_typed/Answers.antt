@@ -46,8 +46,8 @@ slice_bounds-copy_bits-end g c = omega (
 )
 
 pub slice_bounds-copy_bits-end-in-walks : goal.slice_bounds-copy_bits-end-in-walks
-slice_bounds-copy_bits-end-in-walks g c = part-long c.walks.list c.walk-count.new.list c.min-room.result c.walk-count.result
-    c.walk-count.auto.list c.walk-count.ensures.in_bounds
+slice_bounds-copy_bits-end-in-walks g c = part-long c.walks.list c.walk-count.new.list c.min-room.result
+    c.walk-count.result c.walk-count.auto.list c.walk-count.ensures.in_bounds
 
 pub copy_bits-requires-clause-keys : goal.copy_bits-requires-clause-keys
 copy_bits-requires-clause-keys g c = omega (
@@ -142,7 +142,8 @@ walks-preserved g c =
           let there : n + m ≤ length all = omega (arith, lists.count_is, fewer, was.there) in
           let p = first-of all (omega (arith, some, there)) in
           let last : x ≡ get_or row (m - 1) x = last-of c.walks.list c.walk-count.new.list c.min-room.result m
-          c.index-list-room.result c.walk-count.auto.list c.walk-count.ensures.in_bounds some c.if-count-room.false room in
+          c.index-list-room.result c.walk-count.auto.list c.walk-count.ensures.in_bounds some c.if-count-room.false
+          room in
           let rows = both-next g.K.Scalar.whole g.V.Scalar.whole all rest c.walks.list c.walk-count.new.list n
           c.min-room.result m was.there was.rest c.walk-count.auto.list c.walk-count.ensures.in_bounds lists
           c.args.keys.now c.walks.keys c.copy_bits.new.keys c.args.values.now c.walks.values c.copy_bits.new.values
@@ -153,7 +154,8 @@ walks-preserved g c =
                 c.walks.list c.walk-count.new.list n c.min-room.result m was.there was.rest c.walk-count.auto.list
                 c.walk-count.ensures.in_bounds lists x p some last)
                 ∙ goes-on c.args.past (g.K.Scalar.whole c.args.from) its
-                (map-rises d (ByHandle c.args.object.handle) g.K.Scalar.kind g.V.Scalar.kind c.args.segment.now.cut.bytes
+                (map-rises d (ByHandle c.args.object.handle) g.K.Scalar.kind g.V.Scalar.kind
+                c.args.segment.now.cut.bytes
                 st.denotes) (n + (m - 1)) p (omega (arith, some, there))
                 ∙ ap (λ j. drop j all) (let end : suc (n + (m - 1)) ≡ n + m = omega (arith, some) in end);
             keys = rows.0;

@@ -1,5 +1,6 @@
 //! Elements of objects of scalars, of vectors and of strings.
 ghost use Rattle.std.specs.Prelude.{◌≡◌, ◌≤◌, OnErr, false, true};
+ghost use Rattle.seg_types.specs.Values.{kind_of_scalar};
 ghost use Rattle.seg_types.specs.Commands.{Erase, Get, Insert, Integer, Pop, Push, Set};
 ghost use Rattle.seg_types.specs.{Keys.key_seen, Names.ByHandle, Written.literal_seen};
 ghost use Rattle.seg_types.specs.declared.kinds.Kind.TheVariants.{Strings as StringsKind, Vector as VectorOf};
@@ -17,10 +18,10 @@ use crate::codes::{DONE, done, element_out};
 use crate::keys::ObjectKey;
 use crate::segment_slot::{SegmentSlot, put, put_taken_back, take};
 use crate::values::CScalar;
-use seg_types::{Handle, Key, Kind, Refusal, ScalarKind, ScalarValue, by_kind};
+use seg_types::{Handle, Key, Kind, Refusal, ScalarKind, ScalarValue, by_kind, by_value};
 use segment_manager::unchecked::object_here;
 use segment_manager::{Segment, is_remembered, locate, push_within};
-use segment_values::{InsertSpot, add_scalar, get, get_element};
+use segment_values::{InsertSpot, get, get_element};
 use std::alloc::Global;
 
 /// Returns the element at `index` in the object of a key: of scalars, of a vector of scalars, or of a string, which has
@@ -151,13 +152,23 @@ fn push(segment: &mut Segment, key: &Key, value: ScalarValue) -> Result<(), Refu
         (done_answer result) }
     ensures refused { OnErr result (segment.new ≡ segment.old) }
 {
-    match add_scalar(segment, key, InsertSpot::End, value) {
+    match push_own(segment, key, value) {
         Ok(()) => Ok(()),
         Err(why) => match why {
             Refusal::WrongKind => add(segment, key, InsertSpot::End, value),
             _ => Err(why),
         },
     }
+}
+
+/// Puts a value after the last element of the vector of a key, a vector of the value's own kind.
+#[inline(always)]
+fn push_own(segment: &mut Segment, key: &Key, value: ScalarValue) -> Result<(), Refusal>
+    ensures step { TakesStepOfKind segment.old segment.new (key_seen key.now) (VectorOf (kind_of_scalar value))
+        (Push (key_seen key.now) (literal_seen value)) (done_answer result) }
+    ensures refused { OnErr result (segment.new ≡ segment.old) }
+{
+    by_value!(value, it => segment.vec_push(key, it))
 }
 
 /// Puts a value where `index` others stand before it in the vector of a key.

@@ -332,7 +332,7 @@ fn first(segment: &Segment, key: &Key, at: &mut CScalar, value: &mut CScalar) ->
     ensures unchanged_on_error { 1 ≤ result → (at.new ≡ at.old) × (value.new ≡ value.old) }
 {
     match map_of(segment, key) {
-        Ok((_, keys, values)) => pair_out(first_pair(segment, key, keys, values), at, value),
+        Ok((object, keys, values)) => pair_out(first_pair(segment, object, keys, values), at, value),
         Err(why) => code_of(why),
     }
 }
@@ -437,8 +437,8 @@ fn next(
     ensures unchanged_on_error { 1 ≤ result → (at.new ≡ at.old) × (value.new ≡ value.old) }
 {
     match map_of(segment, key) {
-        Ok((_, keys, values)) => match after.value_of(keys) {
-            Ok(below) => pair_out(next_pair(segment, key, below, values), at, value),
+        Ok((object, keys, values)) => match after.value_of(keys) {
+            Ok(below) => pair_out(next_pair(segment, object, below, values), at, value),
             Err(why) => code_of(why),
         },
         Err(why) => code_of(why),

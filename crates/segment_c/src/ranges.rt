@@ -15,7 +15,8 @@ use crate::keys::ObjectKey;
 use crate::segment_slot::{SegmentSlot, put};
 use crate::slices::{CScalars, on_slice};
 use seg_types::{Key, Refusal, Scalar, ScalarKind};
-use segment_manager::Segment;
+use segment_manager::{Segment, locate};
+use segment_values::read_elements;
 use std::alloc::Global;
 
 /// Copies elements of the object of a key into a row, of a type.
@@ -25,8 +26,11 @@ fn read_slice<T: Scalar>(segment: &Segment, key: &Key, first: u64, series: &mut 
         ≡ zs) result (range_at d (key_seen key.now) T.kind first (length series.old)) }
     ensures unchanged_on_error { 1 ≤ result → series.new ≡ series.old }
 {
-    match segment_values::read_elements(segment, key, first, series) {
-        Ok(()) => DONE,
+    match locate(segment, key) {
+        Ok(object) => match read_elements(segment, object, first, series) {
+            Ok(()) => DONE,
+            Err(why) => code_of(why),
+        },
         Err(why) => code_of(why),
     }
 }

@@ -9,7 +9,7 @@ use Rattle.seg_types.specs.{Commands.Literal, Commands.value_of_literal, declare
 use Rattle.seg_types.specs.declared.kinds.Kind.{Kind}
 use Rattle.seg_map.specs.Numbers.{NumberPair}
 use Rattle.segment_manager.specs.Directory.{Directory, Object, Pairs, Value, kind_of, object_at}
-use Rattle.segment_manager.specs.containers.Walks.{KindedPair, pairs_at_kinds, pairs_of}
+use Rattle.segment_manager.specs.containers.Walks.{KindedPair, pairs_at, pairs_at_kinds, pairs_of}
 use Rattle.segment_manager.specs.containers.Maps.{pair_above, answer_of_map, told_of}
 use Rattle.segment_manager.specs.State.{AnswersWith, DenotesCurrent, SegmentState}
 use Rattle.segment_manager.specs.{declared.objects.object_ref.Object.Object as Located, objects.Instances.IsMissing}
@@ -35,6 +35,9 @@ no-kinds (Vector k) n = refl
 no-kinds String n = refl
 no-kinds Strings n = refl
 
+abbrev pairs_in : Option Object → List NumberPair
+pairs_in r = elim r as (λ _. List NumberPair) [ None ↦ [] | Some o ↦ pairs_of o.value ]
+
 module _ (s : SegmentState) (key : Key) where
   -- no object has the key
   pub kinds-missing : (why : Refusal) → IsMissing s key why → AnswersWith s (λ d. map_kinds_at d key) (Err why)
@@ -58,6 +61,10 @@ module _ (s : SegmentState) (key : Key) where
       answers = λ d st. ap map_kinds (sym e) ∙ ap kinds_told ((kind-by_key s key o l).answers d st);
     }
 
+    -- it has the same pairs by its handle, of whatever kinds
+    pub all-pairs : (d : Directory) → DenotesCurrent s.cut.bytes d → pairs_at d (key_of o) ≡ pairs_at d key
+    all-pairs d st = ap pairs_in (sym (same-object s key o l d st))
+
     -- it has the same pairs by its handle
     pub same-pairs : (k v : ScalarKind) (d : Directory) → DenotesCurrent s.cut.bytes d
         → pairs_at_kinds d (key_of o) k v ≡ pairs_at_kinds d key k v
@@ -80,9 +87,6 @@ module _ (s : SegmentState) (key : Key) where
     told-map k v a d st p = subst P (ap (by_kinds (say d)) (a.answers d st)) p
 
 -- ---- the pair above a number, of a map of two kinds
-
-abbrev pairs_in : Option Object → List NumberPair
-pairs_in r = elim r as (λ _. List NumberPair) [ None ↦ [] | Some o ↦ pairs_of o.value ]
 
 abbrev Numbers : Type 0
 Numbers = Result (Option (ℤ × ℤ)) Refusal

@@ -6,7 +6,7 @@ use Rattle.segment_manager.specs.{Calls.kind_at, State.AnswersWith, containers.M
 use Rattle.segment_manager.specs.containers.Walks.{KindedPair, item_seen, pairs_at}
 use Rattle.segment_manager.proofs.Laws.{kind-by_key}
 use Rattle.segment_c.specs.Reads.{TellsPair, above_in, item_in, next_in}
-use Rattle.segment_c.proofs.views.Neighbours.{told-map, told-refused}
+use Rattle.segment_c.proofs.views.Neighbours.{all-pairs, told-map, told-refused}
 
 pub returns-in-Err-clause-read : goal.returns-in-Err-clause-read
 returns-in-Err-clause-read c =
@@ -25,19 +25,20 @@ returns-in-Err-value_of-clause-read c = λ d st.
 
 pub next_pair-requires : goal.next_pair-requires
 next_pair-requires c = record {
-  map = subst (λ j. AnswersWith c.args.segment.now (λ d.
-      kind_at d (key_seen c.args.key.now)) (Ok (Map j c.in-Ok.values))) (sym c.in-Ok-value_of.ensures.0)
-      (subst (λ (k : Kind). AnswersWith c.args.segment.now (λ d. kind_at d (key_seen c.args.key.now)) (Ok k))
-      c.in-Ok.ensures.map.1 (kind-by_key c.args.segment.now (key_seen c.args.key.now) _ c.in-Ok.ensures.map.0));
+  there = c.in-Ok.ensures.map.0.here;
+  of_kind = c.in-Ok.ensures.map.1 ∙ ap (λ j. Map j c.in-Ok.values) (sym c.in-Ok-value_of.ensures.0);
 }
 
 pub returns-in-Ok-value_of-clause-read : goal.returns-in-Ok-value_of-clause-read
 returns-in-Ok-value_of-clause-read c = λ d st.
+    let key = key_seen c.args.key.now in
     let tells = TellsPair c.pair_out.new.at c.pair_out.new.value c.pair_out.result in
-    let ps = pairs_at d (key_seen c.args.key.now) in
-    told-map c.args.segment.now (key_seen c.args.key.now) tells
-    (λ d. next_in (pairs_at d (key_seen c.args.key.now)) (literal_seen c.args.after)) c.in-Ok.keys c.in-Ok.values
-    c.in-Ok.ensures.kinds d st (subst tells (ap (above_in ps c.in-Ok.keys c.in-Ok.values)
+    let z = value_of_scalar c.in-Ok-value_of.below in
+    told-map c.args.segment.now key tells
+    (λ d. next_in (pairs_at d key) (literal_seen c.args.after)) c.in-Ok.keys c.in-Ok.values
+    c.in-Ok.ensures.kinds d st (subst tells (ap (above_in (pairs_at d key) c.in-Ok.keys c.in-Ok.values)
     (sym c.in-Ok-value_of.ensures.1)) (subst (λ (p : Option KindedPair). tells (Ok p)) (c.next_pair.ensures.answers d st
-    ∙ ap (λ j. item_in j c.in-Ok.values (pair_above (value_of_scalar c.in-Ok-value_of.below) ps))
-    c.in-Ok-value_of.ensures.0) c.pair_out.ensures.read))
+    ∙ ap (λ ps. item_in _ c.in-Ok.values (pair_above z ps))
+    (all-pairs c.args.segment.now key c.in-Ok.object c.in-Ok.ensures.map.0 d st)
+    ∙ ap (λ j. item_in j c.in-Ok.values (pair_above z (pairs_at d key))) c.in-Ok-value_of.ensures.0)
+    c.pair_out.ensures.read))

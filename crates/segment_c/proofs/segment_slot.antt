@@ -1,2 +1,3 @@
--- The machine values of a `HeldSegment`. The file assumes `Logic`.
+-- The machine values of a `HeldSegment`, which assume `Logic`, and calls that go on by another call of their handle.
 pub mod MachineValues
+pub mod GoingOn

@@ -1,8 +1,9 @@
 -- What a call of a handle does: what is asked of its segment, what a refusal leaves, and its marks.
 use Rattle.std.specs.Prelude.{◌≡◌, ◌≤◌, ℕ}
-use Rattle.segment_manager.specs.State.{SegmentState}
+use Rattle.seg_types.specs.Commands.{Command}
+use Rattle.segment_manager.specs.{Answers.Answer, State.AnswersQuery, State.SegmentState}
 use Rattle.segment_c.specs.Calls.{PerformsCall, PerformsRead, UnchangedOnCode}
-use Rattle.segment_c.specs.{Marked.RaisesMoves, declared.segment_slot.SegmentSlot.SegmentSlot}
+use Rattle.segment_c.specs.{Codes.answer_for, Marked.RaisesMoves, declared.segment_slot.SegmentSlot.SegmentSlot}
 
 -- a call that changes the segment: if it is refused nothing changes
 pub record ChangesHandle (wrong code : ℕ) (old new : SegmentSlot) (P : SegmentState → SegmentState → Type 0) :
@@ -29,3 +30,10 @@ pub record AsksHandle (wrong code : ℕ) (old new : SegmentSlot) (P : SegmentSta
 pub record ReadsHandle (wrong code : ℕ) (old new : SegmentSlot) (P : SegmentState → Type 0) : Type 0 where
   pub read : PerformsRead wrong code old.segment.value new.segment.value P
   pub marks : new.marks ≡ old.marks
+
+-- a call that asks the segment by a command, and says the answer if the code is 0
+pub record AsksSegment {A : Type 0} (say : A → Answer) (c : Command) (code : ℕ) (before after : SegmentSlot)
+    (old new : A) : Type 0
+  where
+    pub call : AsksHandle 0 code before after (λ s t. AnswersQuery s c (answer_for code (say new)))
+    pub outputs_on_error : 1 ≤ code → new ≡ old

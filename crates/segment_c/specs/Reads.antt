@@ -69,39 +69,46 @@ vector_kind_at d key = elim (kind_at d key) as (λ _. ScalarKind) [ Err r ↦ U8
 abbrev pub item_in : ScalarKind → ScalarKind → Option (ℤ × ℤ) → Option KindedPair
 item_in k v p = option_map (item_of_kinds k v) p
 
+-- the kinds of the keys and of the values of a map
+abbrev pub map_kinds : Kind → Result (ScalarKind × ScalarKind) Refusal
+map_kinds (Map k v) = Ok (k, v)
+map_kinds (Scalar k) = Err WrongKind
+map_kinds (Vector k) = Err WrongKind
+map_kinds String = Err WrongKind
+map_kinds Strings = Err WrongKind
+
+-- the kinds of the map of a key
+abbrev pub map_kinds_at : Directory → Key → Result (ScalarKind × ScalarKind) Refusal
+map_kinds_at d key = elim (kind_at d key) as (λ _. Result (ScalarKind × ScalarKind) Refusal) [
+  | Err why ↦ Err why
+  | Ok kind ↦ map_kinds kind
+]
+
+-- what is said of a map of two kinds, or the error
+abbrev pub by_kinds : {A : Type 0} → (ScalarKind → ScalarKind → Result A Refusal)
+    → Result (ScalarKind × ScalarKind) Refusal → Result A Refusal
+by_kinds say (Ok (k, v)) = say k v
+by_kinds say (Err why) = Err why
+
 -- the first pair of a map
-abbrev pub first_in : List NumberPair → Kind → Result (Option KindedPair) Refusal
-first_in ps (Map k v) = Ok (item_in k v (option_map item_of (first_of ps)))
-first_in ps (Scalar k) = Err WrongKind
-first_in ps (Vector k) = Err WrongKind
-first_in ps String = Err WrongKind
-first_in ps Strings = Err WrongKind
+abbrev pub first_in : List NumberPair → ScalarKind → ScalarKind → Result (Option KindedPair) Refusal
+first_in ps k v = Ok (item_in k v (option_map item_of (first_of ps)))
 
 -- the pair with the least key of the map of a key
 abbrev pub first_at : Directory → Key → Result (Option KindedPair) Refusal
-first_at d key = elim (kind_at d key) as (λ _. Result (Option KindedPair) Refusal) [
-  | Err why ↦ Err why
-  | Ok kind ↦ first_in (pairs_at d key) kind
-]
+first_at d key = by_kinds (first_in (pairs_at d key)) (map_kinds_at d key)
 
 abbrev pub above_in : List NumberPair → ScalarKind → ScalarKind → Result ℤ Refusal → Result (Option KindedPair) Refusal
 above_in ps k v (Ok z) = Ok (item_in k v (pair_above z ps))
 above_in ps k v (Err why) = Err why
 
--- the pair above a key in a map
-abbrev pub next_in : List NumberPair → Literal → Kind → Result (Option KindedPair) Refusal
-next_in ps l (Map k v) = above_in ps k v (value_of_literal k l)
-next_in ps l (Scalar k) = Err WrongKind
-next_in ps l (Vector k) = Err WrongKind
-next_in ps l String = Err WrongKind
-next_in ps l Strings = Err WrongKind
+-- the pair above the key that a literal is, in a map
+abbrev pub next_in : List NumberPair → Literal → ScalarKind → ScalarKind → Result (Option KindedPair) Refusal
+next_in ps l k v = above_in ps k v (value_of_literal k l)
 
 -- the pair with the least key above the one that a literal is
 abbrev pub next_at : Directory → Key → Literal → Result (Option KindedPair) Refusal
-next_at d key l = elim (kind_at d key) as (λ _. Result (Option KindedPair) Refusal) [
-  | Err why ↦ Err why
-  | Ok kind ↦ next_in (pairs_at d key) l kind
-]
+next_at d key l = by_kinds (next_in (pairs_at d key) l) (map_kinds_at d key)
 
 -- a pair goes out, or none is there
 abbrev pub TellsPair : CScalar → CScalar → ℕ → Result (Option KindedPair) Refusal → Type 0

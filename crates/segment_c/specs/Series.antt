@@ -2,12 +2,13 @@
 use Rattle.std.specs.Prelude.{◌≡◌, ℕ, ◌+◌, ℤ, ◌-ℤ◌, pos, int_lt, if◌then◌else◌, Bool, List, ◌++◌, length, take}
 use Rattle.std.specs.Prelude.{drop, map, min, Result, Ok, Err}
 use Rattle.seg_map.specs.{Listing.pairs_past, Numbers.NumberPair, Places.item_of}
-use Rattle.seg_types.specs.{Commands.Literal, Commands.value_of_literal, Names.Key}
-use Rattle.seg_types.specs.{declared.kinds.Kind.Kind, declared.refusals.Refusal.Refusal}
-use Rattle.seg_types.specs.declared.kinds.Kind.TheVariants.{Map, Scalar, String, Strings, Vector}
-use Rattle.seg_types.specs.declared.refusals.Refusal.TheVariants.{WrongKind}
-use Rattle.segment_manager.specs.{Calls.kind_at, Directory.Directory, containers.Maps.number_item}
+use Rattle.seg_types.specs.{Commands.Literal, Commands.value_of_literal, Names.ByHandle, Names.Key}
+use Rattle.seg_types.specs.{declared.kinds.ScalarKind.ScalarKind, declared.refusals.Refusal.Refusal}
+use Rattle.segment_c.specs.Reads.{by_kinds, map_kinds_at}
+use Rattle.segment_manager.specs.{Directory.Directory, containers.Maps.number_item}
 use Rattle.segment_manager.specs.containers.Walks.{pairs_at_kinds}
+use Rattle.segment_manager.specs.declared.objects.object_ref.Object.{Object as Located}
+use Rattle.segment_manager.specs.State.{DenotesCurrent, SegmentState}
 
 -- ---- the pairs
 
@@ -16,20 +17,13 @@ abbrev pub those_past : List NumberPair → Bool → Result ℤ Refusal → Resu
 those_past ps past (Ok z) = Ok (pairs_past int_lt past z ps)
 those_past ps past (Err why) = Err why
 
--- the pairs of a map of a kind from the key on that a literal is, or above it
-abbrev pub pairs_in : Directory → Key → Bool → Literal → Kind → Result (List NumberPair) Refusal
-pairs_in d key past l (Map k v) = those_past (pairs_at_kinds d key k v) past (value_of_literal k l)
-pairs_in d key past l (Scalar k) = Err WrongKind
-pairs_in d key past l (Vector k) = Err WrongKind
-pairs_in d key past l String = Err WrongKind
-pairs_in d key past l Strings = Err WrongKind
+-- the pairs of a map of two kinds from the key on that a literal is, or above it
+abbrev pub pairs_in : Directory → Key → Bool → Literal → ScalarKind → ScalarKind → Result (List NumberPair) Refusal
+pairs_in d key past l k v = those_past (pairs_at_kinds d key k v) past (value_of_literal k l)
 
 -- the pairs of the map of a key from the key on that a literal is, or above it
 abbrev pub pairs_from_at : Directory → Key → Bool → Literal → Result (List NumberPair) Refusal
-pairs_from_at d key past l = elim (kind_at d key) as (λ _. Result (List NumberPair) Refusal) [
-  | Err why ↦ Err why
-  | Ok kind ↦ pairs_in d key past l kind
-]
+pairs_from_at d key past l = by_kinds (pairs_in d key past l) (map_kinds_at d key)
 
 -- ---- the series
 
@@ -68,3 +62,9 @@ pub record FillsSeries (ps : List NumberPair) (keys keys' values values' : List 
   pub count_is : count ≡ min (min (length keys) (length values)) (length ps)
   pub keys_are : keys' ≡ map key_bits (take count ps) ++ drop count keys
   pub values_are : values' ≡ map value_bits (take count ps) ++ drop count values
+
+-- the series have the bits of the pairs of a located map of two kinds whose keys are not below a number, or above it
+abbrev pub FillsFrom : SegmentState → Located → ScalarKind → ScalarKind → Bool → ℤ → List ℤ → List ℤ → List ℤ → List ℤ
+    → ℕ → Type 0
+FillsFrom s o k v past z keys keys' values values' count = (d : Directory) → DenotesCurrent s.cut.bytes d
+    → FillsSeries (pairs_past int_lt past z (pairs_at_kinds d (ByHandle o.handle) k v)) keys keys' values values' count

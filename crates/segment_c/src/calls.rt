@@ -1,13 +1,12 @@
 //! How a call begins: what C passes is read, and the segment is taken out of its handle.
-ghost use Rattle.std.specs.Prelude.{◌≡◌, ◌≢◌, MatchResult};
 ghost use Rattle.std.specs.declared.option.Option.TheVariants.{None, Some};
-ghost use Rattle.seg_types.specs.Keys.{index_key_seen, key_seen, new_key_seen};
+ghost use Rattle.std.specs.Prelude.{◌≡◌, ◌≢◌, MatchResult};
+ghost use Rattle.seg_types.specs.{Keys.index_key_seen, Keys.key_seen, Keys.new_key_seen, Written.literal_seen};
 ghost use Rattle.seg_types.specs.Names.{NoKey};
-ghost use Rattle.segment_c.specs.Calls.{RefusesCall};
 ghost use Rattle.segment_c.specs.Passed.{entry_of, entry_wrong, key_of, key_wrong, literal_in, new_of, new_wrong};
 ghost use Rattle.segment_c.specs.Passed.{or_else, slice_wrong, scalar_kind_in, value_wrong};
+ghost use Rattle.segment_c.specs.Calls.{RefusesCall};
 ghost use Rattle.segment_manager.specs.objects.NewObjects.{IsOfKind};
-ghost use Rattle.seg_types.specs.Written.{literal_seen};
 
 use crate::keys::ObjectKey;
 use crate::segment_slot::{SegmentSlot, take};

@@ -1,12 +1,8 @@
 //! Calls that change the object of a key, and answer a code alone.
 ghost use Rattle.seg_types.specs.Keys.{key_seen};
-ghost use Rattle.segment_c.specs.Calls.{PerformsCall};
-ghost use Rattle.segment_c.specs.Changing.{ChangesObject, LeavesHandle, LeavesOld};
-ghost use Rattle.segment_c.specs.Codes.{answer_for};
-ghost use Rattle.segment_c.specs.Passed.{key_of, key_wrong};
-ghost use Rattle.segment_c.specs.Marked.{RaisesMoves};
-ghost use Rattle.segment_manager.specs.Answers.{Done};
-ghost use Rattle.segment_manager.specs.State.{done_answer};
+ghost use Rattle.segment_c.specs.{Changing.ChangesObject, Changing.LeavesHandle, Changing.LeavesOld, Codes.answer_for};
+ghost use Rattle.segment_c.specs.{Calls.PerformsCall, Marked.RaisesMoves, Passed.key_of, Passed.key_wrong};
+ghost use Rattle.segment_manager.specs.{Answers.Done, State.done_answer};
 
 use crate::calls::{enter, passed};
 use crate::codes::done;

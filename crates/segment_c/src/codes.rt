@@ -3,13 +3,11 @@ ghost use Rattle.std.specs.Prelude.{◌≡◌, ◌≤◌, IsTrue, MatchResult};
 ghost use Rattle.std.specs.declared.option.Option.TheVariants.{Some as Held};
 ghost use Rattle.raw_region.specs.Memory.{whole};
 ghost use Rattle.seg_types.specs.Refusals.{refusal_number};
-ghost use Rattle.segment_c.specs.Codes.{answer_for, is_answer};
-ghost use Rattle.segment_c.specs.Marked.{raised};
-ghost use Rattle.segment_c.specs.Passed.{element_in};
+ghost use Rattle.segment_c.specs.{Codes.answer_for, Codes.is_answer, Marked.raised, Passed.element_in};
 ghost use Rattle.segment_manager.specs.Answers.{Answer, Done, Found, Made, Refused, Boolean};
+ghost use Rattle.segment_manager.specs.State.{done_answer, handle_answer, scalar_answer, truth_answer};
 ghost use Rattle.segment_manager.specs.objects.Found.{found_answer, found_object_answer};
 ghost use Rattle.segment_manager.specs.containers.Maps.{any_value_answer};
-ghost use Rattle.segment_manager.specs.State.{done_answer, handle_answer, scalar_answer, truth_answer};
 
 use crate::segment_slot::{SegmentSlot, put, put_changed};
 use crate::values::CScalar;

@@ -1,21 +1,15 @@
 //! Elements of objects of scalars, of vectors and of strings.
-ghost use Rattle.std.specs.Prelude.{◌≡◌, ◌≤◌, IsTrue, OnErr};
-ghost use Rattle.std.specs.declared.option.Option.TheVariants.{None, Some as Held};
+ghost use Rattle.std.specs.Prelude.{◌≡◌, ◌≤◌, OnErr, false, true};
+ghost use Rattle.seg_types.specs.Values.{kind_of_scalar};
 ghost use Rattle.seg_types.specs.Commands.{Erase, Get, Insert, Integer, Pop, Push, Set};
 ghost use Rattle.seg_types.specs.{Keys.key_seen, Names.ByHandle, Written.literal_seen};
 ghost use Rattle.seg_types.specs.declared.kinds.Kind.TheVariants.{Strings as StringsKind, Vector as VectorOf};
-ghost use Rattle.segment_c.specs.Handles.{ChangesHandle, AsksHandle};
-ghost use Rattle.segment_c.specs.Calls.{HoldsSegment};
-ghost use Rattle.segment_c.specs.Codes.{answer_for, is_answer};
-ghost use Rattle.segment_c.specs.Marked.{raised};
+ghost use Rattle.segment_c.specs.{Codes.answer_for, Handles.AsksHandle, Handles.ChangesHandle};
 ghost use Rattle.segment_c.specs.Passed.{element_in, key_of, key_wrong, literal_in, or_else, value_wrong};
 ghost use Rattle.segment_c.specs.Reads.{vector_kind, vector_kind_at};
-ghost use Rattle.segment_manager.specs.Answers.{Done, refusal_of};
-ghost use Rattle.segment_manager.specs.Calls.{scalar_reply};
+ghost use Rattle.segment_manager.specs.{Answers.Done, Answers.refusal_of, Calls.scalar_reply, Step.step_of_kind};
 ghost use Rattle.segment_manager.specs.State.{AnswersWith, TakesStep, TakesStepOfKind, Transitions, done_answer};
-ghost use Rattle.segment_manager.specs.State.{scalar_answer};
-ghost use Rattle.segment_manager.specs.Step.{step_of_kind};
-ghost use Rattle.segment_manager.specs.{containers.TextLists.LeadsOnOfKind};
+ghost use Rattle.segment_manager.specs.{State.scalar_answer, containers.TextLists.LeadsOnOfKind};
 ghost use Rattle.segment_values.specs.Changes.{command_at};
 
 use crate::calls::{enter, enter_with, passed};
@@ -24,10 +18,10 @@ use crate::codes::{DONE, done, element_out};
 use crate::keys::ObjectKey;
 use crate::segment_slot::{SegmentSlot, put, put_taken_back, take};
 use crate::values::CScalar;
-use seg_types::{Handle, Key, Kind, Refusal, ScalarKind, ScalarValue, by_kind};
+use seg_types::{Handle, Key, Kind, Refusal, ScalarKind, ScalarValue, by_kind, by_value};
 use segment_manager::unchecked::object_here;
 use segment_manager::{Segment, is_remembered, locate, push_within};
-use segment_values::{InsertSpot, add_scalar, get, get_element};
+use segment_values::{InsertSpot, get, get_element};
 use std::alloc::Global;
 
 /// Returns the element at `index` in the object of a key: of scalars, of a vector of scalars, or of a string, which has
@@ -54,30 +48,8 @@ pub extern "C" fn zx_get(
         let answer = get_element(&segment, object, index);
         return put_taken_back(element_out(answer, value), h, segment);
     }
-    get_searched(h, segment, handle, index, value)
-}
-
-/// Returns the element at `index` in the object of a handle. It searches for the handle, and remembers it.
-#[inline(never)]
-fn get_searched(
-    h: &mut SegmentSlot,
-    segment: Box<Segment>,
-    handle: Handle,
-    index: u64,
-    value: &mut CScalar,
-) -> u32
-    ensures read { AnswersWith segment.value
-        (λ d. scalar_reply segment.value.mode d (ByHandle handle) (Get (ByHandle handle) index))
-        (answer_for result (element_in value.new)) }
-    ensures answer { IsTrue (is_answer result) }
-    ensures unchanged_on_error { 1 ≤ result → value.new ≡ value.old }
-    ensures effect { h.new.segment.value ≡ Held segment.value }
-    ensures marks { h.new.marks ≡ h.old.marks }
-{
-    let mut segment = segment;
-    segment.remember(handle);
-    let answer = get(&segment, &Key::Handle(handle), index);
-    put(element_out(answer, value), h, segment)
+    put_taken_back(DONE, h, segment);
+    get_any(alloc, h, key, index, value)
 }
 
 /// Returns the element at `index` in the object of a key, for any form of key.
@@ -130,19 +102,36 @@ pub extern "C" fn zx_push(
     let (Some(handle), Some(number)) = (key.as_handle(), value.as_i64()) else {
         return push_any(alloc, h, key, value);
     };
-    let segment = passed!(take(alloc, h));
-    number_pushed(h, segment, handle, number)
+    zx_push_i64(alloc, h, handle, number)
 }
 
 /// Puts a number after the last element of the vector of a handle, which can be any number, as `zx_push` does. It packs
-/// no key and no value.
+/// no key and no value. It is not inlined, and what it calls within the capacity is: only one function makes those
+/// calls.
+#[inline(never)]
 #[unsafe(no_mangle)]
 pub extern "C" fn zx_push_i64(alloc: Global, h: &mut SegmentSlot, handle: u64, number: i64) -> u32
     ensures call { ChangesHandle 0 result h.old h.new
         (λ s t. TakesStep s t (Push (ByHandle handle) (Integer number)) (answer_for result Done)) }
 {
-    let segment = passed!(take(alloc, h));
-    number_pushed(h, segment, handle, number)
+    let mut segment = passed!(take(alloc, h));
+    if push_here(&mut segment, handle, number) {
+        h.marks.raise();
+        return put_taken_back(DONE, h, segment);
+    }
+    put_taken_back(DONE, h, segment);
+    let value = CScalar::of(ScalarValue::I64(number));
+    push_any(alloc, h, &ObjectKey::of_handle(handle), &value)
+}
+
+/// Puts a number after the last element of the vector of a handle, and returns true, if the handle is remembered and
+/// the vector is of `i64` with room. Otherwise nothing changes.
+#[inline(always)]
+fn push_here(segment: &mut Segment, handle: Handle, number: i64) -> bool
+    ensures step { result ≡ true → TakesStep segment.old segment.new (Push (ByHandle handle) (Integer number)) Done }
+    ensures refused { result ≡ false → segment.new ≡ segment.old }
+{
+    is_remembered(segment, handle) && push_within(segment, handle, number)
 }
 
 /// Puts a value after the last element of the vector of a key, for any form of key and any value.
@@ -152,42 +141,7 @@ fn push_any(alloc: Global, h: &mut SegmentSlot, key: &ObjectKey<'_>, value: &CSc
         (λ s t. TakesStep s t (Push (key_of key.now) (literal_in value.now)) (answer_for result Done)) }
 {
     let (which, new, mut segment) = passed!(enter_with(alloc, h, key, value));
-    done(push(&mut segment, &which, new), h, segment)
-}
-
-/// Puts a number after the last element of the vector of a handle, and answers so. It is not inlined, and what it calls
-/// within the capacity is, since only one function makes those calls.
-#[inline(never)]
-fn number_pushed(h: &mut SegmentSlot, segment: Box<Segment>, handle: Handle, number: i64) -> u32
-    requires { h.old.segment.value ≡ None }
-    ensures step { HoldsSegment h.new.segment.value (λ t. TakesStep segment.value t
-        (Push (ByHandle handle) (Integer number)) (answer_for result Done)) }
-    ensures answer { IsTrue (is_answer result) }
-    ensures unchanged_on_error { 1 ≤ result → h.new.segment.value ≡ Held segment.value }
-    ensures marks { h.new.marks ≡ raised h.old.marks }
-{
-    let mut segment = segment;
-    if is_remembered(&segment, handle) && push_within(&mut segment, handle, number) {
-        h.marks.raise();
-        return put_taken_back(DONE, h, segment);
-    }
-    number_added(h, segment, handle, number)
-}
-
-/// Puts a number after the last element of the vector of a handle, of whatever kind, and answers so. It remembers the
-/// handle.
-#[inline(never)]
-fn number_added(h: &mut SegmentSlot, segment: Box<Segment>, handle: Handle, number: i64) -> u32
-    ensures step { HoldsSegment h.new.segment.value (λ t. TakesStep segment.value t
-        (Push (ByHandle handle) (Integer number)) (answer_for result Done)) }
-    ensures answer { IsTrue (is_answer result) }
-    ensures unchanged_on_error { 1 ≤ result → h.new.segment.value ≡ Held segment.value }
-    ensures marks { h.new.marks ≡ raised h.old.marks }
-{
-    let mut segment = segment;
-    segment.remember(handle);
-    let value = ScalarValue::I64(number);
-    let answer = add(&mut segment, &Key::Handle(handle), InsertSpot::End, value);
+    let answer = push(&mut segment, &which, new);
     done(answer, h, segment)
 }
 
@@ -198,13 +152,23 @@ fn push(segment: &mut Segment, key: &Key, value: ScalarValue) -> Result<(), Refu
         (done_answer result) }
     ensures refused { OnErr result (segment.new ≡ segment.old) }
 {
-    match add_scalar(segment, key, InsertSpot::End, value) {
+    match push_own(segment, key, value) {
         Ok(()) => Ok(()),
         Err(why) => match why {
             Refusal::WrongKind => add(segment, key, InsertSpot::End, value),
             _ => Err(why),
         },
     }
+}
+
+/// Puts a value after the last element of the vector of a key, a vector of the value's own kind.
+#[inline(always)]
+fn push_own(segment: &mut Segment, key: &Key, value: ScalarValue) -> Result<(), Refusal>
+    ensures step { TakesStepOfKind segment.old segment.new (key_seen key.now) (VectorOf (kind_of_scalar value))
+        (Push (key_seen key.now) (literal_seen value)) (done_answer result) }
+    ensures refused { OnErr result (segment.new ≡ segment.old) }
+{
+    by_value!(value, it => segment.vec_push(key, it))
 }
 
 /// Puts a value where `index` others stand before it in the vector of a key.
@@ -220,11 +184,8 @@ pub extern "C" fn zx_insert(
         (λ s t. TakesStep s t (Insert (key_of key.now) index (literal_in value.now)) (answer_for result Done)) }
 {
     let (which, new, mut segment) = passed!(enter_with(alloc, h, key, value));
-    done(
-        add(&mut segment, &which, InsertSpot::Before(index), new),
-        h,
-        segment,
-    )
+    let answer = add(&mut segment, &which, InsertSpot::Before(index), new);
+    done(answer, h, segment)
 }
 
 /// Puts a value into the vector of a key, where the spot says.

@@ -1,24 +1,19 @@
 //! Segments made, opened, looked at, saved and closed.
-ghost use Rattle.std.specs.Prelude.{◌≡◌, ◌≢◌, ◌≤◌, ◌⊎◌, ◌↔◌, ◌+◌, IfErr, IfOk, IsTrue, MatchOption, MatchResult, false};
-ghost use Rattle.std.specs.Prelude.{length, min};
+ghost use Rattle.std.specs.Prelude.{◌≡◌, ◌≢◌, ◌≤◌, ◌⊎◌, ◌↔◌, ◌+◌, IfErr, IfOk, IsTrue, MatchOption, MatchResult};
 ghost use Rattle.std.specs.declared.option.Option.TheVariants.{None, Some};
+ghost use Rattle.std.specs.Prelude.{false, length, min};
 ghost use Rattle.block_tags.specs.Format.{is_legal_size};
 ghost use Rattle.image_check.specs.{Classes.number_of, declared.errors.OpenError.TheVariants.ReadFault};
-ghost use Rattle.raw_region.specs.Memory.{zeros};
-ghost use Rattle.raw_region.specs.Regions.{IsCapacity};
+ghost use Rattle.raw_region.specs.{Memory.zeros, Regions.IsCapacity};
 ghost use Rattle.seg_types.specs.Commands.{Free, Size};
-ghost use Rattle.segment_c.specs.{Calls.RefusesArgument, Calls.HoldsSegment, Handles.AsksHandle};
-ghost use Rattle.segment_c.specs.Codes.{answer_for};
+ghost use Rattle.segment_c.specs.Opening.{IsImageOpened, IsNoImage, IsPlaced, IsWhyNotOpened, OpensInHandle};
 ghost use Rattle.segment_c.specs.Images.{CopiesOut, mode_code, mode_of, mode_wrong};
-ghost use Rattle.segment_c.specs.Marked.{PlacesSegment, placed};
-ghost use Rattle.segment_c.specs.Opening.{IsImageOpened, IsNoImage, IsPlaced, IsWhyNotOpened, capacity_wrong};
-ghost use Rattle.segment_c.specs.Opening.{code_of_cause, place_of_cause, size_said};
-ghost use Rattle.segment_c.specs.Passed.{or_else};
+ghost use Rattle.segment_c.specs.{Codes.answer_for, Opening.code_of_cause, Opening.place_of_cause, Opening.size_said};
+ghost use Rattle.segment_c.specs.{Handles.AsksHandle, Handles.AsksSegment, Marked.placed, Marked.PlacesSegment};
+ghost use Rattle.segment_c.specs.Calls.{HoldsSegment};
+ghost use Rattle.segment_manager.specs.{Calls.CreatesOk, State.AnswersQuery, State.IsSegment, State.SegmentState};
+ghost use Rattle.segment_manager.specs.{blocks.Resized.room_behind, declared.modes.Mode.TheVariants.Write};
 ghost use Rattle.segment_manager.specs.Answers.{Number};
-ghost use Rattle.segment_manager.specs.Calls.{CreatesOk};
-ghost use Rattle.segment_manager.specs.blocks.Resized.{room_behind};
-ghost use Rattle.segment_manager.specs.State.{AnswersQuery, IsSegment, SegmentState};
-ghost use Rattle.segment_manager.specs.declared.modes.Mode.TheVariants.{Write};
 
 use crate::calls::passed;
 use crate::codes::{
@@ -62,9 +57,7 @@ pub extern "C" fn zx_close(alloc: Global, h: &mut SegmentSlot)
 /// Returns the number of bytes in the segment.
 #[unsafe(no_mangle)]
 pub extern "C" fn zx_size(alloc: Global, h: &mut SegmentSlot, size: &mut u64) -> u32
-    ensures call { AsksHandle 0 result h.old h.new (λ s t.
-        AnswersQuery s Size (answer_for result (Number size.new))) }
-    ensures unchanged_on_error { 1 ≤ result → size.new ≡ size.old }
+    ensures call { AsksSegment Number Size result h.old h.new size.old size.new }
 {
     let segment = passed!(take(alloc, h));
     *size = segment.size();
@@ -74,9 +67,7 @@ pub extern "C" fn zx_size(alloc: Global, h: &mut SegmentSlot, size: &mut u64) ->
 /// Returns the bytes of all gaps, their tags included.
 #[unsafe(no_mangle)]
 pub extern "C" fn zx_free_bytes(alloc: Global, h: &mut SegmentSlot, free_bytes: &mut u64) -> u32
-    ensures call { AsksHandle 0 result h.old h.new (λ s t.
-        AnswersQuery s Free (answer_for result (Number free_bytes.new))) }
-    ensures unchanged_on_error { 1 ≤ result → free_bytes.new ≡ free_bytes.old }
+    ensures call { AsksSegment Number Free result h.old h.new free_bytes.old free_bytes.new }
 {
     let segment = passed!(take(alloc, h));
     *free_bytes = segment.free();
@@ -174,14 +165,7 @@ pub extern "C" fn zx_open(
     capacity: u64,
     mode: u32,
 ) -> u32
-    ensures stop { RefusesArgument (or_else (capacity_wrong capacity) (mode_wrong mode)) result h.old.segment.value
-        h.new.segment.value }
-    ensures opening { result ≡ 0 → HoldsSegment h.new.segment.value (λ t.
-        IsImageOpened image.now capacity (mode_of mode) t) }
-    ensures cause { or_else (capacity_wrong capacity) (mode_wrong mode) ≡ 0 → 1 ≤ result
-        → IsWhyNotOpened image.now capacity result }
-    ensures unchanged_on_error { 1 ≤ result → h.new.segment.value ≡ h.old.segment.value }
-    ensures marks { PlacesSegment result h.old.marks h.new.marks false }
+    ensures opening { OpensInHandle image.now capacity mode result h.old h.new }
 {
     zx_open_explained(alloc, h, image, capacity, mode, &mut 0)
 }
@@ -196,15 +180,8 @@ pub extern "C" fn zx_open_explained(
     mode: u32,
     place: &mut u64,
 ) -> u32
-    ensures stop { RefusesArgument (or_else (capacity_wrong capacity) (mode_wrong mode)) result h.old.segment.value
-        h.new.segment.value }
-    ensures opening { result ≡ 0 → HoldsSegment h.new.segment.value (λ t.
-        IsImageOpened image.now capacity (mode_of mode) t) }
-    ensures cause { or_else (capacity_wrong capacity) (mode_wrong mode) ≡ 0 → 1 ≤ result
-        → IsWhyNotOpened image.now capacity result }
+    ensures opening { OpensInHandle image.now capacity mode result h.old h.new }
     ensures place { IsPlaced image.now result place.old place.new }
-    ensures unchanged_on_error { 1 ≤ result → h.new.segment.value ≡ h.old.segment.value }
-    ensures marks { PlacesSegment result h.old.marks h.new.marks false }
 {
     if !is_capacity(capacity) {
         return BAD_SIZE;

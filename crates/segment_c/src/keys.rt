@@ -1,9 +1,8 @@
 //! The keys that C passes.
 ghost use Rattle.std.specs.Prelude.{◌≡◌, ◌≢◌, ◌≤◌, IfSome, MatchResult};
-ghost use Rattle.seg_types.specs.Keys.{index_key_seen, key_seen};
-ghost use Rattle.seg_types.specs.Names.{ByHandle, NoKey};
+ghost use Rattle.seg_types.specs.{Keys.index_key_seen, Keys.key_seen, Names.ByHandle, Names.NoKey};
 ghost use Rattle.segment_c.specs.Passed.{entry_of, entry_wrong, key_of, key_wrong};
-ghost use Rattle.segment_manager.specs.objects.{NewObjects.IsOfKind};
+ghost use Rattle.segment_manager.specs.objects.NewObjects.{IsOfKind};
 
 use crate::codes::{BAD_KEY, BAD_KIND, BAD_NAME, NULL_SLICE};
 use seg_types::{Handle, IndexKey, Key, Kind, Name};
@@ -11,6 +10,7 @@ use seg_types::{Handle, IndexKey, Key, Kind, Name};
 /// Which object, by `how`. It is the one of the name (0), the unique one of the kind (1), the one of the handle (2), or
 /// a new one with no key (3). 4 stands for a null name.
 #[repr(C)]
+#[derive(Drop)]
 pub struct ObjectKey<'a> {
     /// Which of the fields says the object.
     pub how: u32,
@@ -51,6 +51,20 @@ impl<'a> ObjectKey<'a> {
         match self.how {
             2 => Some(self.handle),
             _ => None,
+        }
+    }
+
+    /// Returns the key of a handle.
+    #[inline(always)]
+    #[tactic(auto, unfolding(crate::specs::Passed::key_wrong, crate::specs::Passed::key_of))]
+    pub fn of_handle(handle: Handle) -> ObjectKey<'static>
+        ensures { (key_wrong result ≡ 0) × (key_of result ≡ ByHandle handle) }
+    {
+        ObjectKey {
+            how: 2,
+            kind: 0,
+            handle,
+            name: b"",
         }
     }
 

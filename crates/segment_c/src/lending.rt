@@ -1,14 +1,9 @@
 //! Segments in memory that C lends, as in a file that it mapped: they stand there, and no byte of them is copied.
 ghost use Rattle.std.specs.Prelude.{◌≡◌, ◌≢◌, ◌≤◌, List, [], MatchResult, false, if◌then◌else◌, length, true};
 ghost use Rattle.std.specs.declared.option.Option.TheVariants.{None as NoSegment, Some as Held};
-ghost use Rattle.raw_region.specs.Memory.{part, whole};
-ghost use Rattle.raw_region.specs.Regions.{IsCapacity};
-ghost use Rattle.segment_c.specs.Calls.{RefusesClosed, RefusesArgument, HoldsSegment};
-ghost use Rattle.segment_c.specs.Images.{mode_of, mode_wrong};
-ghost use Rattle.segment_c.specs.Lending.{IsOpenedHere, memory_wrong};
-ghost use Rattle.segment_c.specs.Marked.{PlacesSegment};
-ghost use Rattle.segment_c.specs.Opening.{IsPlaced, IsWhyNotOpened};
-ghost use Rattle.segment_c.specs.Passed.{or_else};
+ghost use Rattle.raw_region.specs.{Memory.part, Memory.whole, Regions.IsCapacity};
+ghost use Rattle.segment_c.specs.{Lending.IsOpenedHere, Lending.memory_wrong, Lending.OpensHere, Marked.PlacesSegment};
+ghost use Rattle.segment_c.specs.{Calls.RefusesClosed, Opening.IsPlaced, Opening.IsWhyNotOpened};
 ghost use Rattle.segment_manager.specs.State.{SegmentState};
 
 use crate::calls::passed;
@@ -32,16 +27,7 @@ pub extern "C" fn zx_attach(
     len: u64,
     mode: u32,
 ) -> u32
-    ensures stop { RefusesArgument (or_else (memory_wrong (length memory.old.bytes.items) len) (mode_wrong mode))
-        result h.old.segment.value h.new.segment.value }
-    ensures opening { result ≡ 0 → HoldsSegment h.new.segment.value (λ t.
-        IsOpenedHere memory.old.bytes.items len (mode_of mode) t) }
-    ensures cause { or_else (memory_wrong (length memory.old.bytes.items) len) (mode_wrong mode) ≡ 0 → 1 ≤ result
-        → IsWhyNotOpened (part memory.old.bytes.items 0 len) (length memory.old.bytes.items) result }
-    ensures unchanged_on_error { 1 ≤ result → h.new.segment.value ≡ h.old.segment.value }
-    ensures transfer { result ≡ 0 → memory.new.bytes.items ≡ [] }
-    ensures remainder { 1 ≤ result → memory.new.bytes.items ≡ memory.old.bytes.items }
-    ensures marks { PlacesSegment result h.old.marks h.new.marks true }
+    ensures opening { OpensHere memory.old.bytes.items memory.new.bytes.items len mode result h.old h.new }
 {
     zx_attach_explained(alloc, h, memory, len, mode, &mut 0)
 }
@@ -57,17 +43,8 @@ pub extern "C" fn zx_attach_explained(
     mode: u32,
     place: &mut u64,
 ) -> u32
-    ensures stop { RefusesArgument (or_else (memory_wrong (length memory.old.bytes.items) len) (mode_wrong mode))
-        result h.old.segment.value h.new.segment.value }
-    ensures opening { result ≡ 0 → HoldsSegment h.new.segment.value (λ t.
-        IsOpenedHere memory.old.bytes.items len (mode_of mode) t) }
-    ensures cause { or_else (memory_wrong (length memory.old.bytes.items) len) (mode_wrong mode) ≡ 0 → 1 ≤ result
-        → IsWhyNotOpened (part memory.old.bytes.items 0 len) (length memory.old.bytes.items) result }
+    ensures opening { OpensHere memory.old.bytes.items memory.new.bytes.items len mode result h.old h.new }
     ensures place { IsPlaced (part memory.old.bytes.items 0 len) result place.old place.new }
-    ensures unchanged_on_error { 1 ≤ result → h.new.segment.value ≡ h.old.segment.value }
-    ensures transfer { result ≡ 0 → memory.new.bytes.items ≡ [] }
-    ensures remainder { 1 ≤ result → memory.new.bytes.items ≡ memory.old.bytes.items }
-    ensures marks { PlacesSegment result h.old.marks h.new.marks true }
 {
     if !holds(memory, len) {
         return BAD_SIZE;

@@ -1,19 +1,14 @@
 //! What objects say of themselves, by key and one after another, and the blocks and gaps.
-ghost use Rattle.std.specs.Prelude.{◌≡◌, ◌≤◌, slice_get};
 ghost use Rattle.std.specs.declared.option.Option.TheVariants.{None, Some};
+ghost use Rattle.std.specs.Prelude.{◌≡◌, ◌≤◌, slice_get};
 ghost use Rattle.best_fit.specs.Extents.{spans};
-ghost use Rattle.seg_types.specs.Commands.{NumNamed, NumUnique};
-ghost use Rattle.seg_types.specs.Keys.{key_seen};
-ghost use Rattle.seg_types.specs.Kinds.{class_code};
-ghost use Rattle.segment_c.specs.Handles.{AsksHandle, ReadsHandle};
-ghost use Rattle.segment_c.specs.Codes.{answer_for};
+ghost use Rattle.seg_types.specs.{Commands.NumNamed, Commands.NumUnique, Keys.key_seen, Kinds.class_code};
 ghost use Rattle.segment_c.specs.Lists.{IsInfo, WritesInfo, TellsAlone, TellsBlock, WritesInfoOf, use_code};
+ghost use Rattle.segment_c.specs.{Codes.answer_for, Handles.AsksHandle, Handles.AsksSegment, Handles.ReadsHandle};
 ghost use Rattle.segment_c.specs.Passed.{key_of, key_wrong};
-ghost use Rattle.segment_manager.specs.Answers.{Number};
 ghost use Rattle.segment_manager.specs.Directory.{Directory, Object, live, named_objects, object_at, unique_objects};
-ghost use Rattle.segment_manager.specs.indexes.NamesFrom.{IsFirstFrom};
-ghost use Rattle.segment_manager.specs.objects.Instances.{IsInstance};
-ghost use Rattle.segment_manager.specs.State.{AnswersQuery, DenotesCurrent};
+ghost use Rattle.segment_manager.specs.{indexes.NamesFrom.IsFirstFrom, State.AnswersQuery, State.DenotesCurrent};
+ghost use Rattle.segment_manager.specs.{Answers.Number, objects.Instances.IsInstance};
 
 use crate::calls::{enter, passed};
 use crate::codes::{DONE, NOT_FOUND, OUT_OF_RANGE, SHORT_BUFFER};
@@ -117,23 +112,6 @@ fn tell_unique(segment: &Segment, index: u64, info: &mut Info) -> u32
         return OUT_OF_RANGE;
     }
     *info = Info::of(&unique_instance(segment, index));
-    DONE
-}
-
-/// Returns the block or gap with `index` others before it.
-fn tell_tile(segment: &Segment, index: u64, block: &mut CBlock) -> u32
-    ensures read { (d : Directory) → DenotesCurrent segment.now.cut.bytes d
-        → TellsBlock block.new result (slice_get (spans (live d)) index) }
-    ensures unchanged_on_error { 1 ≤ result → block.new ≡ block.old }
-{
-    let Some(span) = segment.tile(index) else {
-        return OUT_OF_RANGE;
-    };
-    *block = CBlock {
-        offset: span.offset,
-        len: span.len,
-        use_of: use_code(span.use_of),
-    };
     DONE
 }
 
@@ -244,15 +222,21 @@ pub extern "C" fn zx_tile_at(
     ensures outputs_on_error { 1 ≤ result → block.new ≡ block.old }
 {
     let segment = passed!(take(alloc, h));
-    put(tell_tile(&segment, index, block), h, segment)
+    let Some(span) = segment.tile(index) else {
+        return put(OUT_OF_RANGE, h, segment);
+    };
+    *block = CBlock {
+        offset: span.offset,
+        len: span.len,
+        use_of: use_code(span.use_of),
+    };
+    put(DONE, h, segment)
 }
 
 /// Returns the number of objects with names.
 #[unsafe(no_mangle)]
 pub extern "C" fn zx_num_named(alloc: Global, h: &mut SegmentSlot, count: &mut u64) -> u32
-    ensures call { AsksHandle 0 result h.old h.new (λ s t.
-        AnswersQuery s NumNamed (answer_for result (Number count.new))) }
-    ensures outputs_on_error { 1 ≤ result → count.new ≡ count.old }
+    ensures call { AsksSegment Number NumNamed result h.old h.new count.old count.new }
 {
     let segment = passed!(take(alloc, h));
     *count = segment.num_named();
@@ -262,9 +246,7 @@ pub extern "C" fn zx_num_named(alloc: Global, h: &mut SegmentSlot, count: &mut u
 /// Returns the number of kinds with a unique object.
 #[unsafe(no_mangle)]
 pub extern "C" fn zx_num_unique(alloc: Global, h: &mut SegmentSlot, count: &mut u64) -> u32
-    ensures call { AsksHandle 0 result h.old h.new (λ s t.
-        AnswersQuery s NumUnique (answer_for result (Number count.new))) }
-    ensures outputs_on_error { 1 ≤ result → count.new ≡ count.old }
+    ensures call { AsksSegment Number NumUnique result h.old h.new count.old count.new }
 {
     let segment = passed!(take(alloc, h));
     *count = segment.num_unique();

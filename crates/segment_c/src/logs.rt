@@ -1,9 +1,8 @@
 //! The bytes of the log beside a file: C makes and reads them by these calls alone.
 ghost use Rattle.std.specs.Prelude.{◌≡◌, ◌≤◌, ◌<◌, ◌++◌, ◌^◌, MatchResult, length};
-ghost use Rattle.segment_log.specs.Edits.{Holds, edit_text, most_len};
+ghost use Rattle.segment_log.specs.{Records.body_at, Records.number_bytes, Records.recovered, Tags.tag_text};
 ghost use Rattle.segment_log.specs.Fingerprints.{fingerprint, page_mark};
-ghost use Rattle.segment_log.specs.Records.{body_at, number_bytes, recovered};
-ghost use Rattle.segment_log.specs.Tags.{tag_text};
+ghost use Rattle.segment_log.specs.Edits.{Holds, edit_text, most_len};
 ghost use Rattle.segment_c.specs.Logs.{OpensWithLog, WritesOut, gate_of};
 
 use crate::codes::{DONE, LOG_FOREIGN, NO_MEMORY, SHORT_BUFFER, TOO_LARGE};

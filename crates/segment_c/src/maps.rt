@@ -1,28 +1,23 @@
 //! Maps: values at keys, and neighbours.
-ghost use Rattle.std.specs.Prelude.{◌≡◌, ◌≤◌, IfOk, IsTrue, Ok, OnErr, Some, false, option_map, true};
-ghost use Rattle.std.specs.declared.option.Option.TheVariants.{Some as Held};
+ghost use Rattle.std.specs.Prelude.{◌≡◌, ◌≤◌, Err, IfOk, IfSome, MatchResult, Ok, OnErr, false, option_map};
 ghost use Rattle.seg_types.specs.Commands.{Integer, Lookup, Put, Remove};
 ghost use Rattle.seg_types.specs.{Keys.key_seen, Names.ByHandle, Written.literal_seen};
 ghost use Rattle.seg_types.specs.declared.kinds.{Kind.TheVariants.Map as MapOf, ScalarKind.TheVariants.I64};
-ghost use Rattle.segment_c.specs.{Calls.ReachesSegment, Handles.ChangesHandle, Handles.AsksHandle, Handles.ReadsHandle};
-ghost use Rattle.segment_c.specs.Codes.{answer_for, is_answer};
-ghost use Rattle.segment_c.specs.{Calls.HoldsSegment, Marked.raised};
+ghost use Rattle.segment_c.specs.{Calls.ReachesSegment, Codes.answer_for};
+ghost use Rattle.segment_c.specs.Handles.{AsksHandle, ChangesHandle, ReadsHandle};
 ghost use Rattle.segment_c.specs.Passed.{element_in, key_of, key_wrong, literal_in, or_else, value_wrong};
-ghost use Rattle.segment_c.specs.Reads.{TellsPair, TellsPairOf, first_at, next_at};
-ghost use Rattle.segment_manager.specs.Answers.{Boolean};
-ghost use Rattle.segment_manager.specs.Directory.{Directory};
-ghost use Rattle.segment_manager.specs.Keeping.{UnchangedWhere};
-ghost use Rattle.segment_manager.specs.{Step.is_read_only, objects.BoundObjects.IsBound};
+ghost use Rattle.segment_c.specs.Reads.{TellsPair, TellsPairOf, first_at, map_kinds_at, next_at};
+ghost use Rattle.segment_manager.specs.{Answers.Boolean, Directory.Directory, Keeping.UnchangedWhere};
+ghost use Rattle.segment_manager.specs.{Step.is_read_only, objects.BoundObjects.IsBound, objects.Located.IsLocated};
 ghost use Rattle.segment_manager.specs.State.{AnswersQuery, AnswersQueryOfKind, AnswersWith, DenotesCurrent, TakesStep};
-ghost use Rattle.segment_manager.specs.State.{TakesStepOfKind};
-ghost use Rattle.segment_manager.specs.{State.truth_answer, objects.Found.is_object_at};
+ghost use Rattle.segment_manager.specs.State.{TakesStepOfKind, truth_answer};
 ghost use Rattle.segment_manager.specs.containers.{Maps.any_value_answer, Walks.item_of_kinds};
 ghost use Rattle.segment_values.specs.Absent.{LacksLiteral};
 
 use crate::calls::{enter, enter_pair, enter_with, passed};
-use crate::codes::{ABSENT, DONE, NOT_FOUND, WRONG_KIND, code_of, truth, value_found};
+use crate::codes::{ABSENT, DONE, code_of, truth, value_found};
 use crate::keys::ObjectKey;
-use crate::segment_slot::{SegmentSlot, put, take};
+use crate::segment_slot::{SegmentSlot, put, put_taken_back, take};
 use crate::values::CScalar;
 use seg_types::theorems::holds_value;
 use seg_types::{Handle, Key, Kind, Refusal, ScalarKind, ScalarValue, WrittenValue};
@@ -33,6 +28,53 @@ use std::alloc::Global;
 
 /// The kind of maps from `i64` to `i64`.
 const NUMBERS: Kind = Kind::Map(ScalarKind::I64, ScalarKind::I64);
+
+/// The segment of a handle, and its map from `i64` to `i64` with the handle of an object that is remembered. Without
+/// that the segment goes back, and the call takes the general way.
+macro_rules! numbers_or {
+    ($alloc:ident, $h:ident, $handle:ident, $general:expr) => {{
+        let segment = passed!(take($alloc, $h));
+        match numbers_of(&segment, $handle) {
+            Some(object) => (segment, object),
+            None => {
+                put_taken_back(DONE, $h, segment);
+                return $general;
+            }
+        }
+    }};
+}
+
+/// Returns the map from `i64` to `i64` of a handle, if that is remembered.
+#[inline(always)]
+fn numbers_of(segment: &Segment, handle: Handle) -> Option<Object>
+    ensures { IfSome result (λ o. IsLocated segment.now (ByHandle handle) o × (o.kind ≡ MapOf I64 I64)) }
+{
+    if is_remembered(segment, handle) {
+        return object_of_kind(segment, handle, NUMBERS).ok();
+    }
+    None
+}
+
+/// Returns the map of a key, and the kinds of its keys and of its values.
+///
+/// # Errors
+///
+/// `NotFound` if no object has the key, `WrongKind` if the object is no map.
+#[inline(always)]
+pub fn map_of(segment: &Segment, key: &Key) -> Result<(Object, ScalarKind, ScalarKind), Refusal>
+    ensures kinds { MatchResult result
+        (λ it. AnswersWith segment.now (λ d. map_kinds_at d (key_seen key.now)) (Ok (it.1, it.2)))
+        (λ why. AnswersWith segment.now (λ d. map_kinds_at d (key_seen key.now)) (Err why)) }
+    ensures map { IfOk result (λ it. IsLocated segment.now (key_seen key.now) it.0 × (it.0.kind ≡ MapOf it.1 it.2)) }
+{
+    match locate(segment, key) {
+        Ok(object) => match object.kind {
+            Kind::Map(keys, values) => Ok((object, keys, values)),
+            _ => Err(Refusal::WrongKind),
+        },
+        Err(why) => Err(why),
+    }
+}
 
 /// Returns the value at a key of the map of a key.
 #[unsafe(no_mangle)]
@@ -51,12 +93,9 @@ pub extern "C" fn zx_map_get(
     let (Some(handle), Some(number)) = (key.as_handle(), at.as_i64()) else {
         return get_any(alloc, h, key, at, value);
     };
-    let segment = passed!(take(alloc, h));
-    if is_remembered(&segment, handle) {
-        number_found(h, segment, handle, number, value)
-    } else {
-        number_found_in_any(h, segment, handle, number, value)
-    }
+    let (segment, object) = numbers_or!(alloc, h, handle, get_any(alloc, h, key, at, value));
+    let found = number_at(&segment, handle, object, number);
+    value_found(Ok(found), value, h, segment)
 }
 
 /// Returns the value at a key of the map of a key, for any form of key and any value.
@@ -78,63 +117,15 @@ fn get_any(
     value_found(answer, value, h, segment)
 }
 
-/// Answers the value of a number in the map of a handle. It looks the map up once if that is from `i64` to `i64`.
+/// Returns the value of a number in the map from `i64` to `i64` of a handle.
 #[inline(always)]
-fn number_found(
-    h: &mut SegmentSlot,
-    segment: Box<Segment>,
-    handle: Handle,
-    at: i64,
-    value: &mut CScalar,
-) -> u32
-    requires { AnswersWith segment.value (λ d. is_object_at d handle) true }
-    ensures read { AnswersQuery segment.value (Lookup (ByHandle handle) (Integer at))
-        (answer_for result (element_in value.new)) }
-    ensures answer { IsTrue (is_answer result) }
-    ensures unchanged_on_error { 1 ≤ result → value.new ≡ value.old }
-    ensures effect { h.new.segment.value ≡ Held segment.value }
-    ensures marks { h.new.marks ≡ h.old.marks }
-{
-    match number_at(&segment, handle, at) {
-        Ok(found) => value_found(Ok(found), value, h, segment),
-        Err(_) => number_found_in_any(h, segment, handle, at, value),
-    }
-}
-
-/// Answers the value of a number in the map of a handle, of whatever kinds. It remembers the handle.
-#[inline(never)]
-fn number_found_in_any(
-    h: &mut SegmentSlot,
-    segment: Box<Segment>,
-    handle: Handle,
-    at: i64,
-    value: &mut CScalar,
-) -> u32
-    ensures read { AnswersQuery segment.value (Lookup (ByHandle handle) (Integer at))
-        (answer_for result (element_in value.new)) }
-    ensures answer { IsTrue (is_answer result) }
-    ensures unchanged_on_error { 1 ≤ result → value.new ≡ value.old }
-    ensures effect { h.new.segment.value ≡ Held segment.value }
-    ensures marks { h.new.marks ≡ h.old.marks }
-{
-    let mut segment = segment;
-    segment.remember(handle);
-    let answer = segment_values::look_up(&segment, &Key::Handle(handle), &ScalarValue::I64(at));
-    value_found(answer, value, h, segment)
-}
-
-/// Returns the value of a number in the map of a handle, or an error if that is not from `i64` to `i64`.
-#[inline(always)]
-fn number_at(segment: &Segment, handle: Handle, at: i64) -> Result<Option<ScalarValue>, Refusal>
-    requires { AnswersWith segment.now (λ d. is_object_at d handle) true }
-    ensures { IfOk result (λ found.
-        AnswersQuery segment.now (Lookup (ByHandle handle) (Integer at)) (any_value_answer (Ok found))) }
+fn number_at(segment: &Segment, _handle: Handle, object: Object, at: i64) -> Option<ScalarValue>
+    requires location { IsLocated segment.now (ByHandle _handle) object }
+    requires kind { object.kind ≡ MapOf I64 I64 }
+    ensures { AnswersQuery segment.now (Lookup (ByHandle _handle) (Integer at)) (any_value_answer (Ok result)) }
 {
     holds_value(at);
-    match object_of_kind(segment, handle, NUMBERS) {
-        Ok(object) => Ok(number_in(segment, object, at)),
-        Err(why) => Err(why),
-    }
+    number_in(segment, object, at)
 }
 
 /// Returns the value of a number in a located map from `i64` to `i64`.
@@ -169,51 +160,59 @@ pub extern "C" fn zx_map_put(
     else {
         return put_any(alloc, h, key, at, value, is_new);
     };
-    let segment = passed!(take(alloc, h));
-    number_put(h, segment, handle, number, is_new, new)
+    number_put(alloc, h, handle, number, is_new, new)
 }
 
 /// Puts a number at a number in the map of a handle, and says whether that is new. It is not inlined, so that a call
 /// with a name needs no room for it.
 #[inline(never)]
 fn number_put(
+    alloc: Global,
     h: &mut SegmentSlot,
-    segment: Box<Segment>,
     handle: Handle,
     at: i64,
     is_new: &mut bool,
     value: i64,
 ) -> u32
-    ensures step { HoldsSegment h.new.segment.value (λ t. TakesStep segment.value t
-        (Put (ByHandle handle) (Integer at) (Integer value)) (answer_for result (Boolean is_new.new))) }
-    ensures answer { IsTrue (is_answer result) }
-    ensures unchanged_on_error { 1 ≤ result → (h.new.segment.value ≡ Held segment.value) × (is_new.new ≡ is_new.old) }
-    ensures marks { h.new.marks ≡ raised h.old.marks }
+    ensures call { ChangesHandle 0 result h.old h.new
+        (λ s t. TakesStep s t (Put (ByHandle handle) (Integer at) (Integer value))
+        (answer_for result (Boolean is_new.new))) }
+    ensures outputs_on_error { 1 ≤ result → is_new.new ≡ is_new.old }
 {
-    let mut segment = segment;
-    if is_remembered(&segment, handle) {
-        let answer = put_here(&mut segment, handle, at, value);
-        return truth(answer, is_new, h, segment);
+    let mut segment = passed!(take(alloc, h));
+    if segment.mode() != Mode::ReadOnly {
+        if let Some(object) = numbers_of(&segment, handle) {
+            let answer = put_at(&mut segment, handle, object, at, value);
+            return truth(answer, is_new, h, segment);
+        }
     }
-    put_searched(h, segment, handle, at, is_new, value)
+    put_taken_back(DONE, h, segment);
+    let (at, value) = (ScalarValue::I64(at), ScalarValue::I64(value));
+    let (key, at, value) = (
+        ObjectKey::of_handle(handle),
+        CScalar::of(at),
+        CScalar::of(value),
+    );
+    put_any(alloc, h, &key, &at, &value, is_new)
 }
 
-/// Puts a number at a number in the map of a handle, which the segment has, and returns true if that is new. It looks
-/// the map up if that is not from `i64` to `i64`.
+/// Puts a number at a number in the map from `i64` to `i64` of a handle, and returns true if that is new.
 #[inline(always)]
-fn put_here(segment: &mut Segment, handle: Handle, at: i64, value: i64) -> Result<bool, Refusal>
-    requires { AnswersWith segment.old (λ d. is_object_at d handle) true }
-    ensures step { TakesStep segment.old segment.new (Put (ByHandle handle) (Integer at) (Integer value))
+fn put_at(
+    segment: &mut Segment,
+    _handle: Handle,
+    object: Object,
+    at: i64,
+    value: i64,
+) -> Result<bool, Refusal>
+    requires location { IsLocated segment.old (ByHandle _handle) object }
+    requires kind { object.kind ≡ MapOf I64 I64 }
+    requires writing { is_read_only segment.old.mode ≡ false }
+    ensures step { TakesStep segment.old segment.new (Put (ByHandle _handle) (Integer at) (Integer value))
         (truth_answer result) }
     ensures refused { OnErr result (segment.new ≡ segment.old) }
 {
-    if segment.mode() != Mode::ReadOnly {
-        if let Ok(object) = object_of_kind(segment, handle, NUMBERS) {
-            return put_in(segment, object, at, value);
-        }
-    }
-    let (new_key, new_value) = (ScalarValue::I64(at), ScalarValue::I64(value));
-    segment_values::put_pair(segment, &Key::Handle(handle), &new_key, &new_value)
+    put_in(segment, object, at, value)
 }
 
 /// Puts a number at a number in a located map from `i64` to `i64`, and returns true if that is new.
@@ -226,31 +225,6 @@ fn put_in(segment: &mut Segment, object: Object, at: i64, value: i64) -> Result<
     ensures refused { OnErr result (segment.new ≡ segment.old) }
 {
     MapMut::<i64, i64>::at(segment, object).insert(at, value)
-}
-
-/// Puts a number at a number in the map of a handle, and says whether that is new. It searches for the handle, and
-/// remembers it.
-#[inline(never)]
-fn put_searched(
-    h: &mut SegmentSlot,
-    segment: Box<Segment>,
-    handle: Handle,
-    at: i64,
-    is_new: &mut bool,
-    value: i64,
-) -> u32
-    ensures step { HoldsSegment h.new.segment.value (λ t. TakesStep segment.value t
-        (Put (ByHandle handle) (Integer at) (Integer value)) (answer_for result (Boolean is_new.new))) }
-    ensures answer { IsTrue (is_answer result) }
-    ensures unchanged_on_error { 1 ≤ result → (h.new.segment.value ≡ Held segment.value) × (is_new.new ≡ is_new.old) }
-    ensures marks { h.new.marks ≡ raised h.old.marks }
-{
-    let mut segment = segment;
-    segment.remember(handle);
-    let (new_key, new_value) = (ScalarValue::I64(at), ScalarValue::I64(value));
-    let key = Key::Handle(handle);
-    let answer = segment_values::put_pair(&mut segment, &key, &new_key, &new_value);
-    truth(answer, is_new, h, segment)
 }
 
 /// Puts a value at a key of the map of a key, for any form of key and any two values.
@@ -357,12 +331,9 @@ fn first(segment: &Segment, key: &Key, at: &mut CScalar, value: &mut CScalar) ->
         → TellsPair at.new value.new result (first_at d (key_seen key.now)) }
     ensures unchanged_on_error { 1 ≤ result → (at.new ≡ at.old) × (value.new ≡ value.old) }
 {
-    match locate(segment, key) {
-        Err(_) => NOT_FOUND,
-        Ok(object) => match object.kind {
-            Kind::Map(keys, values) => pair_out(first_pair(segment, key, keys, values), at, value),
-            _ => WRONG_KIND,
-        },
+    match map_of(segment, key) {
+        Ok((object, keys, values)) => pair_out(first_pair(segment, object, keys, values), at, value),
+        Err(why) => code_of(why),
     }
 }
 
@@ -384,35 +355,14 @@ pub extern "C" fn zx_map_next(
     let (Some(handle), Some(number)) = (key.as_handle(), after.as_i64()) else {
         return next_any(alloc, h, key, after, at, value);
     };
-    let segment = passed!(take(alloc, h));
-    if is_remembered(&segment, handle) {
-        return put(next_number(&segment, handle, number, at, value), h, segment);
-    }
-    next_searched(h, segment, handle, at, value, number)
-}
-
-/// Returns the pair with the least key above a number of the map of a handle. It searches for the handle, and remembers
-/// it.
-#[inline(never)]
-fn next_searched(
-    h: &mut SegmentSlot,
-    segment: Box<Segment>,
-    handle: Handle,
-    at: &mut CScalar,
-    value: &mut CScalar,
-    after: i64,
-) -> u32
-    ensures read { (d : Directory) → DenotesCurrent segment.value.cut.bytes d
-        → TellsPair at.new value.new result (next_at d (ByHandle handle) (Integer after)) }
-    ensures unchanged_on_error { 1 ≤ result → (at.new ≡ at.old) × (value.new ≡ value.old) }
-    ensures effect { h.new.segment.value ≡ Held segment.value }
-    ensures marks { h.new.marks ≡ h.old.marks }
-{
-    let mut segment = segment;
-    segment.remember(handle);
-    let below = ScalarValue::I64(after);
+    let (segment, object) = numbers_or!(
+        alloc,
+        h,
+        handle,
+        next_any(alloc, h, key, after, at, value)
+    );
     put(
-        next(&segment, &Key::Handle(handle), below, at, value),
+        next_number(&segment, handle, object, number, at, value),
         h,
         segment,
     )
@@ -437,35 +387,25 @@ fn next_any(
     put(next(&segment, &which, below, at, value), h, segment)
 }
 
-/// Returns the pair with the least key above a number of the map of a handle in a segment. It looks the map up once if
-/// that is from `i64` to `i64`.
+/// Returns the pair with the least key above a number of the map from `i64` to `i64` of a handle.
 #[inline(always)]
 fn next_number(
     segment: &Segment,
-    handle: Handle,
+    _handle: Handle,
+    object: Object,
     after: i64,
     at: &mut CScalar,
     value: &mut CScalar,
 ) -> u32
-    requires { AnswersWith segment.now (λ d. is_object_at d handle) true }
+    requires location { IsLocated segment.now (ByHandle _handle) object }
+    requires kind { object.kind ≡ MapOf I64 I64 }
     ensures read { (d : Directory) → DenotesCurrent segment.now.cut.bytes d
-        → TellsPair at.new value.new result (next_at d (ByHandle handle) (Integer after)) }
+        → TellsPair at.new value.new result (next_at d (ByHandle _handle) (Integer after)) }
     ensures unchanged_on_error { 1 ≤ result → (at.new ≡ at.old) × (value.new ≡ value.old) }
 {
     holds_value(after);
-    match object_of_kind(segment, handle, NUMBERS) {
-        Ok(object) => {
-            let pair = Map::<i64, i64>::at(segment, object).next_after(after);
-            numbers_out(pair, at, value)
-        }
-        Err(_) => next(
-            segment,
-            &Key::Handle(handle),
-            ScalarValue::I64(after),
-            at,
-            value,
-        ),
-    }
+    let pair = Map::<i64, i64>::at(segment, object).next_after(after);
+    numbers_out(pair, at, value)
 }
 
 /// Writes the numbers to the outputs and returns done; returns the code of no pair if there are none.
@@ -496,15 +436,12 @@ fn next(
         → TellsPair at.new value.new result (next_at d (key_seen key.now) (literal_seen after)) }
     ensures unchanged_on_error { 1 ≤ result → (at.new ≡ at.old) × (value.new ≡ value.old) }
 {
-    match locate(segment, key) {
-        Err(_) => NOT_FOUND,
-        Ok(object) => match object.kind {
-            Kind::Map(keys, values) => match after.value_of(keys) {
-                Err(why) => code_of(why),
-                Ok(below) => pair_out(next_pair(segment, key, below, values), at, value),
-            },
-            _ => WRONG_KIND,
+    match map_of(segment, key) {
+        Ok((object, keys, values)) => match after.value_of(keys) {
+            Ok(below) => pair_out(next_pair(segment, object, below, values), at, value),
+            Err(why) => code_of(why),
         },
+        Err(why) => code_of(why),
     }
 }
 

@@ -1,21 +1,18 @@
 //! Objects made, found and destroyed.
 ghost use Rattle.std.specs.Prelude.{◌≡◌, ◌≤◌, ◌≢◌, MatchResult, OnErr, Some, map, replicate, ℕ};
-ghost use Rattle.seg_types.specs.Commands.{Bytes, Construct, Find, NoPairs, Numbers, Strings};
-ghost use Rattle.seg_types.specs.{Keys.key_seen, Kinds.scalar_of_code};
-ghost use Rattle.seg_types.specs.Names.{NoKey};
-ghost use Rattle.seg_types.specs.Values.{kind_of_scalar, value_of_scalar};
 ghost use Rattle.seg_types.specs.declared.kinds.Kind.TheVariants.{Map as MapOf, Scalar as ScalarOf};
 ghost use Rattle.seg_types.specs.declared.kinds.Kind.TheVariants.{String as StringKind, Strings as StringsKind};
-ghost use Rattle.segment_c.specs.Calls.{ReachesSegment};
-ghost use Rattle.segment_c.specs.Handles.{AsksHandle, ChangesHandle, MakesInHandle};
-ghost use Rattle.segment_c.specs.{Codes.answer_for, Making.FindsOrMakesObject};
-ghost use Rattle.segment_c.specs.Destroying.{destroy_command};
+ghost use Rattle.seg_types.specs.Commands.{Bytes, Construct, Find, NoPairs, Numbers, Strings};
+ghost use Rattle.seg_types.specs.{Keys.key_seen, Kinds.scalar_of_code, Values.kind_of_scalar, Values.value_of_scalar};
+ghost use Rattle.seg_types.specs.Names.{NoKey};
 ghost use Rattle.segment_c.specs.Passed.{count_wrong, entry_of, entry_wrong, key_of, key_wrong, kind_in, kind_wrong};
-ghost use Rattle.segment_c.specs.Passed.{new_of, new_wrong, object_kind_in, or_else, scalar_in};
-ghost use Rattle.segment_c.specs.Passed.{scalar_kind_in, scalar_kind_wrong, value_wrong, whole_in};
+ghost use Rattle.segment_c.specs.Passed.{new_of, new_wrong, object_kind_in, or_else, scalar_in, scalar_kind_in};
+ghost use Rattle.segment_c.specs.{Codes.answer_for, Handles.AsksHandle, Handles.ChangesHandle, Handles.MakesInHandle};
+ghost use Rattle.segment_c.specs.{Calls.ReachesSegment, Passed.scalar_kind_wrong, Passed.value_wrong, Passed.whole_in};
+ghost use Rattle.segment_c.specs.{Destroying.destroy_command, Making.FindsOrMakesObject};
+ghost use Rattle.segment_manager.specs.State.{AnswersQuery, TakesStep, truth_answer};
 ghost use Rattle.segment_manager.specs.Answers.{Found, Made, Boolean};
 ghost use Rattle.segment_manager.specs.Keeping.{UnchangedWhere, LacksKey};
-ghost use Rattle.segment_manager.specs.State.{AnswersQuery, TakesStep, truth_answer};
 
 use crate::calls::{enter, enter_entry, enter_new, passed};
 use crate::codes::{BAD_COUNT, BAD_KIND, found, found_or_absent, made, truth};

@@ -2,16 +2,12 @@
 ghost use Rattle.std.specs.Prelude.{◌≡◌, ◌≤◌, OnErr, length, map, pos};
 ghost use Rattle.seg_types.specs.declared.kinds.ScalarKind.TheVariants.{Bool as BoolKind, I32 as I32Kind};
 ghost use Rattle.seg_types.specs.declared.kinds.ScalarKind.TheVariants.{I64 as I64Kind, U8 as U8Kind, U64 as U64Kind};
-ghost use Rattle.seg_types.specs.Keys.{key_seen};
-ghost use Rattle.seg_types.specs.Kinds.{truth_number};
-ghost use Rattle.segment_c.specs.Handles.{ChangesHandle};
+ghost use Rattle.seg_types.specs.{Keys.key_seen, Kinds.truth_number};
+ghost use Rattle.segment_c.specs.Passed.{key_of, key_wrong, numbers_of, or_else, slice_of, slice_wrong};
+ghost use Rattle.segment_c.specs.{Handles.ChangesHandle, Passed.scalar_kind_in, Reads.IsCoded, Reads.ReadsRange};
 ghost use Rattle.segment_c.specs.Codes.{answer_for};
-ghost use Rattle.segment_c.specs.Passed.{key_of, key_wrong, numbers_of, or_else, slice_of, slice_wrong, scalar_kind_in};
-ghost use Rattle.segment_c.specs.Reads.{IsCoded, ReadsRange};
-ghost use Rattle.segment_manager.specs.Answers.{Done};
-ghost use Rattle.segment_manager.specs.Directory.{Directory};
-ghost use Rattle.segment_manager.specs.State.{DenotesCurrent, done_answer};
-ghost use Rattle.segment_manager.specs.containers.Ranges.{WritesRange, range_at};
+ghost use Rattle.segment_manager.specs.{Answers.Done, containers.Ranges.range_at, containers.Ranges.WritesRange};
+ghost use Rattle.segment_manager.specs.{Directory.Directory, State.DenotesCurrent, State.done_answer};
 
 use crate::calls::{enter, enter_slice, passed};
 use crate::codes::{DONE, code_of, done};
@@ -19,7 +15,8 @@ use crate::keys::ObjectKey;
 use crate::segment_slot::{SegmentSlot, put};
 use crate::slices::{CScalars, on_slice};
 use seg_types::{Key, Refusal, Scalar, ScalarKind};
-use segment_manager::Segment;
+use segment_manager::{Segment, locate};
+use segment_values::read_elements;
 use std::alloc::Global;
 
 /// Copies elements of the object of a key into a row, of a type.
@@ -29,8 +26,11 @@ fn read_slice<T: Scalar>(segment: &Segment, key: &Key, first: u64, series: &mut 
         ≡ zs) result (range_at d (key_seen key.now) T.kind first (length series.old)) }
     ensures unchanged_on_error { 1 ≤ result → series.new ≡ series.old }
 {
-    match segment_values::read_elements(segment, key, first, series) {
-        Ok(()) => DONE,
+    match locate(segment, key) {
+        Ok(object) => match read_elements(segment, object, first, series) {
+            Ok(()) => DONE,
+            Err(why) => code_of(why),
+        },
         Err(why) => code_of(why),
     }
 }

@@ -1,15 +1,10 @@
 //! Reads the sizes and the bytes of containers.
 ghost use Rattle.std.specs.Prelude.{◌≡◌, ◌≢◌, ◌≤◌};
-ghost use Rattle.seg_types.specs.declared.kinds.Kind.TheVariants.{Strings as StringsKind};
-ghost use Rattle.seg_types.specs.Commands.{Get};
-ghost use Rattle.seg_types.specs.Keys.{key_seen};
-ghost use Rattle.segment_c.specs.Handles.{ReadsHandle};
-ghost use Rattle.segment_c.specs.Passed.{key_of, key_wrong};
+ghost use Rattle.seg_types.specs.{Commands.Get, declared.kinds.Kind.TheVariants.Strings as StringsKind, Keys.key_seen};
 ghost use Rattle.segment_c.specs.Reads.{AreSizes, Copies, CopiesAnswer, IsCoded, CopiesBytes};
-ghost use Rattle.segment_manager.specs.containers.Contents.{bytes_at, sizes_at};
-ghost use Rattle.segment_manager.specs.Directory.{Directory};
-ghost use Rattle.segment_manager.specs.State.{DenotesCurrent};
-ghost use Rattle.segment_manager.specs.Step.{step_of_kind};
+ghost use Rattle.segment_c.specs.{Handles.ReadsHandle, Passed.key_of, Passed.key_wrong};
+ghost use Rattle.segment_manager.specs.{containers.Contents.bytes_at, containers.Contents.sizes_at, Step.step_of_kind};
+ghost use Rattle.segment_manager.specs.{Directory.Directory, State.DenotesCurrent};
 
 use crate::calls::{enter, passed};
 use crate::codes::{DONE, code_of};

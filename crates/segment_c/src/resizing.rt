@@ -1,17 +1,14 @@
 //! Segments that become longer or shorter, and that move into other regions.
 ghost use Rattle.std.specs.Prelude.{◌≡◌, ◌<◌, ◌≤◌, ◌⊎◌, Some, false, if◌then◌else◌, length, true};
 ghost use Rattle.std.specs.declared.option.Option.TheVariants.{Some as Held};
-ghost use Rattle.grow_shrink.specs.LargerRegion.{GrowsOrMovesOk};
 ghost use Rattle.grow_shrink.specs.Resized.{growth_refusal, room_of, shrink_refusal};
+ghost use Rattle.grow_shrink.specs.LargerRegion.{GrowsOrMovesOk};
 ghost use Rattle.raw_region.specs.Regions.{IsCapacity};
-ghost use Rattle.segment_c.specs.Calls.{RefusesClosed, RefusesArgument, HoldsSegment};
-ghost use Rattle.segment_c.specs.Growing.{IsGrowthCode, growing_code};
-ghost use Rattle.segment_c.specs.Opening.{capacity_wrong};
+ghost use Rattle.segment_c.specs.{Calls.HoldsSegment, Calls.RefusesArgument, Calls.RefusesClosed, Marked.RaisesMoves};
+ghost use Rattle.segment_c.specs.{Growing.growing_code, Growing.IsGrowthCode, Opening.capacity_wrong};
 ghost use Rattle.segment_c.specs.Resizing.{MovesSegment, size_code};
-ghost use Rattle.segment_c.specs.Marked.{RaisesMoves};
-ghost use Rattle.segment_manager.specs.Directory.{Directory};
 ghost use Rattle.segment_manager.specs.blocks.Resized.{Resizes, grown, shrunk};
-ghost use Rattle.segment_manager.specs.State.{DenotesCurrent, SegmentState};
+ghost use Rattle.segment_manager.specs.{Directory.Directory, State.DenotesCurrent, State.SegmentState};
 
 use crate::calls::passed;
 use crate::codes::{BAD_GROWTH, BAD_SIZE, DONE, READ_ONLY, SHORT_REGION, TOO_LARGE, no_memory};
@@ -45,20 +42,11 @@ pub extern "C" fn zx_shrink(alloc: Global, h: &mut SegmentSlot) -> u32
     ensures marks { RaisesMoves result h.old.marks h.new.marks }
 {
     let mut segment = passed!(take(alloc, h));
-    put_changed(shrink(&mut segment), h, segment)
-}
-
-/// Makes a segment as short as its last block lets it be.
-fn shrink(segment: &mut Segment) -> u32
-    ensures code { (d : Directory) → DenotesCurrent segment.old.cut.bytes d
-        → result ≡ size_code (shrink_refusal segment.old.mode) }
-    ensures shrinking { result ≡ 0 → Resizes segment.old segment.new (λ d. shrunk d) }
-    ensures unchanged_on_error { 1 ≤ result → segment.new ≡ segment.old }
-{
-    match grow_shrink::shrink_to_fit(segment) {
+    let code = match grow_shrink::shrink_to_fit(&mut segment) {
         Ok(()) => DONE,
         Err(why) => code_of_growth(why),
-    }
+    };
+    put_changed(code, h, segment)
 }
 
 /// Returns the code by which a segment does not become longer or shorter.

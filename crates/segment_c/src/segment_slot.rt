@@ -1,10 +1,7 @@
 //! The handle that C holds: a pointer to a segment, or null, and what is noted beside it.
-ghost use Rattle.std.specs.Prelude.{◌≡◌, MatchOption, MatchResult};
-ghost use Rattle.std.specs.declared.option.Option.{Option};
 ghost use Rattle.std.specs.declared.option.Option.TheVariants.{None, Some};
-ghost use Rattle.segment_c.specs.Calls.{RefusesCall};
-ghost use Rattle.segment_c.specs.Held.{held};
-ghost use Rattle.segment_c.specs.Marked.{placed, raised};
+ghost use Rattle.std.specs.{declared.option.Option.Option, Prelude.MatchOption, Prelude.MatchResult, Prelude.◌≡◌};
+ghost use Rattle.segment_c.specs.{Calls.RefusesCall, Held.held, Marked.placed, Marked.raised};
 ghost use Rattle.segment_manager.specs.contracts.Segment.{the_row};
 
 use crate::codes::{CLOSED, DONE};

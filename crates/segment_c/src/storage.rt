@@ -1,15 +1,11 @@
 //! The places of vectors and strings, the two indexes, and all of the segment.
 ghost use Rattle.std.specs.Prelude.{◌≡◌, ◌≤◌};
-ghost use Rattle.seg_types.specs.Commands.{AllDeallocated, Clear, Reserve, ReserveNamed, ReserveUnique, Sanity, Shrink};
-ghost use Rattle.seg_types.specs.Commands.{ShrinkIndexes, ZeroFree};
-ghost use Rattle.segment_c.specs.Calls.{ReachesSegment};
-ghost use Rattle.segment_c.specs.Handles.{ChangesHandle, MakesInHandle, AsksHandle};
-ghost use Rattle.segment_c.specs.Codes.{answer_for};
-ghost use Rattle.segment_c.specs.Passed.{key_of, key_wrong};
-ghost use Rattle.segment_manager.specs.Answers.{Done, Boolean};
-ghost use Rattle.segment_manager.specs.Calls.{HasZeroGaps};
-ghost use Rattle.segment_manager.specs.Keeping.{HasCapacity, UnchangedWhere};
-ghost use Rattle.segment_manager.specs.State.{AnswersQuery, TakesStep};
+ghost use Rattle.seg_types.specs.Commands.{AllDeallocated, Clear, Reserve, ReserveNamed, ReserveUnique, Sanity};
+ghost use Rattle.seg_types.specs.Commands.{Shrink, ShrinkIndexes, ZeroFree};
+ghost use Rattle.segment_c.specs.Handles.{ChangesHandle, MakesInHandle, AsksSegment, AsksHandle};
+ghost use Rattle.segment_c.specs.{Calls.ReachesSegment, Codes.answer_for, Passed.key_of, Passed.key_wrong};
+ghost use Rattle.segment_manager.specs.{Answers.Boolean, Answers.Done, Keeping.HasCapacity, Keeping.UnchangedWhere};
+ghost use Rattle.segment_manager.specs.{Calls.HasZeroGaps, State.AnswersQuery, State.TakesStep};
 
 use crate::calls::{enter, passed};
 use crate::changes::{ObjectChange, make_change};
@@ -102,9 +98,7 @@ pub extern "C" fn zx_zero_free(alloc: Global, h: &mut SegmentSlot) -> u32
 /// Sets `is_whole` to the result of the sanity check, which holds of each segment, and returns a code.
 #[unsafe(no_mangle)]
 pub extern "C" fn zx_sanity(alloc: Global, h: &mut SegmentSlot, is_whole: &mut bool) -> u32
-    ensures call { AsksHandle 0 result h.old h.new
-        (λ s t. AnswersQuery s Sanity (answer_for result (Boolean is_whole.new))) }
-    ensures outputs_on_error { 1 ≤ result → is_whole.new ≡ is_whole.old }
+    ensures call { AsksSegment Boolean Sanity result h.old h.new is_whole.old is_whole.new }
 {
     let segment = passed!(take(alloc, h));
     *is_whole = segment.sanity();
@@ -114,9 +108,7 @@ pub extern "C" fn zx_sanity(alloc: Global, h: &mut SegmentSlot, is_whole: &mut b
 /// Sets `is_empty` to true if no block is in use, index blocks included, and returns a code.
 #[unsafe(no_mangle)]
 pub extern "C" fn zx_all_deallocated(alloc: Global, h: &mut SegmentSlot, is_empty: &mut bool) -> u32
-    ensures call { AsksHandle 0 result h.old h.new
-        (λ s t. AnswersQuery s AllDeallocated (answer_for result (Boolean is_empty.new))) }
-    ensures outputs_on_error { 1 ≤ result → is_empty.new ≡ is_empty.old }
+    ensures call { AsksSegment Boolean AllDeallocated result h.old h.new is_empty.old is_empty.new }
 {
     let segment = passed!(take(alloc, h));
     *is_empty = segment.all_deallocated();

@@ -2,11 +2,9 @@
 ghost use Rattle.std.specs.Prelude.{◌∷◌, [], map};
 ghost use Rattle.seg_types.specs.declared.kinds.Kind.TheVariants.{String as StringKind, Strings as StringsKind};
 ghost use Rattle.seg_types.specs.Commands.{Append, Assign, Insert, Push, Quoted, Set};
-ghost use Rattle.segment_c.specs.Handles.{ChangesHandle, MakesInHandle};
+ghost use Rattle.segment_c.specs.{Handles.ChangesHandle, Handles.MakesInHandle, Passed.key_of, Passed.key_wrong};
 ghost use Rattle.segment_c.specs.Codes.{answer_for};
-ghost use Rattle.segment_c.specs.Passed.{key_of, key_wrong};
-ghost use Rattle.segment_manager.specs.Answers.{Done};
-ghost use Rattle.segment_manager.specs.State.{TakesStepOfKind};
+ghost use Rattle.segment_manager.specs.{Answers.Done, State.TakesStepOfKind};
 
 use crate::changes::{ObjectChange, make_change};
 use crate::keys::ObjectKey;

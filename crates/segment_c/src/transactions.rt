@@ -1,13 +1,11 @@
 //! Several calls as one: the segment is copied before them, and may be put back as it was.
-ghost use Rattle.std.specs.Prelude.{◌≡◌, ◌≤◌, MatchResult, false, length, nat_le};
 ghost use Rattle.std.specs.declared.option.Option.TheVariants.{None as NoSegment, Some as Held};
+ghost use Rattle.std.specs.Prelude.{◌≡◌, ◌≤◌, MatchResult, false, length, nat_le};
 ghost use Rattle.grow_shrink.specs.Resized.{room_of};
 ghost use Rattle.raw_region.specs.Memory.{SameSurroundings, cut_at, whole};
-ghost use Rattle.segment_c.specs.Calls.{RefusesClosed, HoldsSegment};
-ghost use Rattle.segment_c.specs.Marked.{RaisesMoves, PlacesSegment};
 ghost use Rattle.segment_c.specs.Transactions.{IsBeginCode, CopiesSegment, RollsBack, rollback_code};
-ghost use Rattle.segment_manager.specs.State.{IsSegment, SegmentState};
-ghost use Rattle.segment_manager.specs.Step.{is_read_only};
+ghost use Rattle.segment_c.specs.{Calls.HoldsSegment, Calls.RefusesClosed, Marked.PlacesSegment, Marked.RaisesMoves};
+ghost use Rattle.segment_manager.specs.{State.IsSegment, State.SegmentState, Step.is_read_only};
 
 use crate::calls::passed;
 use crate::codes::{DONE, READ_ONLY, SHORT_REGION, boxed_or_not, no_memory};

@@ -76,38 +76,27 @@ impl CScalar {
         ensures { scalar_in result ≡ Some (kind_of_scalar value, value_of_scalar value) }
     {
         if let ScalarValue::I64(number) = value {
-            return CScalar::number(4, number);
+            return CScalar::new(4, number, 0);
         }
         match value {
-            ScalarValue::Bool(truth) => CScalar::natural(1, u64::from(truth)),
-            ScalarValue::U8(number) => CScalar::natural(2, u64::from(number)),
-            ScalarValue::I32(number) => CScalar::number(3, i64::from(number)),
-            ScalarValue::I64(number) => CScalar::number(4, number),
-            ScalarValue::U64(number) => CScalar::natural(5, number),
+            ScalarValue::Bool(truth) => CScalar::new(1, 0, u64::from(truth)),
+            ScalarValue::U8(number) => CScalar::new(2, 0, u64::from(number)),
+            ScalarValue::I32(number) => CScalar::new(3, i64::from(number), 0),
+            ScalarValue::I64(number) => CScalar::new(4, number, 0),
+            ScalarValue::U64(number) => CScalar::new(5, 0, number),
         }
     }
 
-    /// Returns one of a kind without a sign.
-    fn natural(kind: u32, natural: u64) -> CScalar
+    /// Returns one of a kind, of which one field or the other has the value.
+    fn new(kind: u32, number: i64, natural: u64) -> CScalar
         ensures kind { result.kind ≡ kind }
+        ensures number { result.number ≡ number }
         ensures natural { result.natural ≡ natural }
     {
         CScalar {
             kind,
-            number: 0,
-            natural,
-        }
-    }
-
-    /// Returns one of a signed kind.
-    fn number(kind: u32, number: i64) -> CScalar
-        ensures kind { result.kind ≡ kind }
-        ensures number { result.number ≡ number }
-    {
-        CScalar {
-            kind,
             number,
-            natural: 0,
+            natural,
         }
     }
 }

@@ -1,20 +1,16 @@
 //! Arrays and vectors of scalars, made of rows of values.
 ghost use Rattle.std.specs.Prelude.{◌≡◌, ◌≤◌, ℕ, MatchResult, OnErr, map};
 ghost use Rattle.seg_types.specs.Commands.{Assign, Construct, ConstructIt, Elements, FindOrConstruct, literal_of};
-ghost use Rattle.seg_types.specs.Keys.{index_key_seen, key_seen, new_key_seen};
 ghost use Rattle.seg_types.specs.declared.kinds.Kind.TheVariants.{Scalar as ScalarOf, Vector as VectorOf};
-ghost use Rattle.segment_c.specs.Handles.{ChangesHandle, MakesInHandle};
-ghost use Rattle.segment_c.specs.{Codes.answer_for, Making.FindsOrMakesObject};
+ghost use Rattle.seg_types.specs.Keys.{index_key_seen, key_seen, new_key_seen};
 ghost use Rattle.segment_c.specs.Passed.{count_wrong, entry_of, entry_wrong, key_of, key_wrong, many_of, new_of};
 ghost use Rattle.segment_c.specs.Passed.{new_wrong, numbers_of, or_else, slice_count, slice_of, slice_wrong};
-ghost use Rattle.segment_c.specs.Passed.{scalar_kind_in};
-ghost use Rattle.segment_manager.specs.Answers.{Done, Found, Made};
-ghost use Rattle.segment_manager.specs.containers.Ranges.{ExtendsVector};
-ghost use Rattle.segment_manager.specs.objects.Found.{found_object_answer};
-ghost use Rattle.segment_manager.specs.Keeping.{IsBoundKey, UnchangedWhere};
-ghost use Rattle.segment_manager.specs.objects.NewObjects.{IsOfKind};
+ghost use Rattle.segment_c.specs.{Handles.ChangesHandle, Handles.MakesInHandle, Making.FindsOrMakesObject};
+ghost use Rattle.segment_c.specs.{Codes.answer_for, Passed.scalar_kind_in};
 ghost use Rattle.segment_manager.specs.State.{TakesStep, TakesStepOfKind, UnchangedIfRefused as KeepsOld, done_answer};
-ghost use Rattle.segment_manager.specs.State.{handle_answer};
+ghost use Rattle.segment_manager.specs.{Keeping.IsBoundKey, Keeping.UnchangedWhere, objects.Found.found_object_answer};
+ghost use Rattle.segment_manager.specs.{Answers.Done, Answers.Found, Answers.Made, containers.Ranges.ExtendsVector};
+ghost use Rattle.segment_manager.specs.{objects.NewObjects.IsOfKind, State.handle_answer};
 
 use crate::calls::{enter_entry, enter_new, enter_slice, passed};
 use crate::codes::{BAD_COUNT, done, found, made};

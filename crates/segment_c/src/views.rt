@@ -1,22 +1,18 @@
 //! Where elements stand, for C that reads and writes them there.
 ghost use denote.RawPtr.{block_ptr};
 ghost use Rattle.std.specs.Prelude.{◌≡◌, ◌≤◌, IfOk};
-ghost use Rattle.std.specs.declared.option.Option.TheVariants.{None, Some as Held};
 ghost use Rattle.seg_types.specs.{Keys.key_seen, Names.ByHandle};
-ghost use Rattle.segment_c.specs.{Calls.HoldsSegment, Calls.PerformsRead, Handles.ReadsHandle};
-ghost use Rattle.segment_c.specs.Marked.{LendsRange};
-ghost use Rattle.segment_c.specs.Passed.{key_of, key_wrong};
-ghost use Rattle.segment_c.specs.Reads.{IsCoded};
-ghost use Rattle.segment_c.specs.Views.{HasView, IsView, writable};
-ghost use Rattle.segment_manager.specs.Directory.{Directory};
-ghost use Rattle.segment_manager.specs.State.{AnswersWith, DenotesCurrent};
+ghost use Rattle.segment_c.specs.{Handles.ReadsHandle, Views.HasView, Views.IsView, Views.TellsView, Views.writable};
+ghost use Rattle.segment_c.specs.{Calls.HoldsSegment, Calls.PerformsRead, Passed.key_of, Passed.key_wrong};
+ghost use Rattle.segment_c.specs.{Marked.LendsRange, Reads.IsCoded};
 ghost use Rattle.segment_manager.specs.containers.ElementRuns.{IsRunOf, run_at};
+ghost use Rattle.segment_manager.specs.{Directory.Directory, State.AnswersWith, State.DenotesCurrent};
 
 use crate::calls::{enter, passed};
 use crate::codes::{DONE, READ_ONLY, code_of};
 use crate::keys::ObjectKey;
 use crate::segment_slot::{Marks, SegmentSlot, put, put_taken_back, take};
-use seg_types::{Handle, Key, Refusal};
+use seg_types::{Key, Refusal};
 use segment_manager::unchecked::{element_run_of, object_here};
 use segment_manager::{ElementRun, Mode, Segment, is_remembered};
 use std::alloc::Global;
@@ -47,21 +43,16 @@ pub extern "C" fn zx_view(
     key: &ObjectKey<'_>,
     view: &mut CView,
 ) -> u32
-    ensures read { ReadsHandle (key_wrong key.now) result h.old h.new
-        (λ s. (d : Directory) → DenotesCurrent s.cut.bytes d
-        → IsCoded (IsView view.new) result (run_at d (key_of key.now))) }
-    ensures bytes { result ≡ 0 → HoldsSegment h.old.segment.value (λ s. HasView s (key_of key.now) view.new) }
-    ensures current { result ≡ 0 → view.new.changes ≡ h.old.marks.changes }
-    ensures outputs_on_error { 1 ≤ result → view.new ≡ view.old }
+    ensures elements { TellsView (key_wrong key.now) (key_of key.now) result h.old h.new view.old view.new }
 {
-    let Some(handle) = key.as_handle() else {
-        return view_any(alloc, h, key, view);
-    };
-    let segment = passed!(take(alloc, h));
-    view_found(h, segment, handle, view)
+    match key.as_handle() {
+        Some(handle) => zx_view_of(alloc, h, handle, view),
+        None => view_any(alloc, h, key, view),
+    }
 }
 
 /// Says where the elements of the object of a handle stand, which can be any number, as `zx_view` does.
+#[inline(always)]
 #[unsafe(no_mangle)]
 pub extern "C" fn zx_view_of(
     alloc: Global,
@@ -69,72 +60,23 @@ pub extern "C" fn zx_view_of(
     handle: u64,
     view: &mut CView,
 ) -> u32
-    ensures read { ReadsHandle 0 result h.old h.new
-        (λ s. (d : Directory) → DenotesCurrent s.cut.bytes d
-        → IsCoded (IsView view.new) result (run_at d (ByHandle handle))) }
-    ensures bytes { result ≡ 0 → HoldsSegment h.old.segment.value (λ s. HasView s (ByHandle handle) view.new) }
-    ensures current { result ≡ 0 → view.new.changes ≡ h.old.marks.changes }
-    ensures outputs_on_error { 1 ≤ result → view.new ≡ view.old }
+    ensures elements { TellsView 0 (ByHandle handle) result h.old h.new view.old view.new }
 {
     let segment = passed!(take(alloc, h));
-    view_found(h, segment, handle, view)
-}
-
-/// Says where the elements of the object of a handle stand. It is inlined, and the search for a handle that is not
-/// remembered is not.
-#[inline(always)]
-fn view_found(h: &mut SegmentSlot, segment: Box<Segment>, handle: Handle, view: &mut CView) -> u32
-    requires { h.old.segment.value ≡ None }
-    ensures read { (d : Directory) → DenotesCurrent segment.value.cut.bytes d
-        → IsCoded (IsView view.new) result (run_at d (ByHandle handle)) }
-    ensures bytes { result ≡ 0 → HasView segment.value (ByHandle handle) view.new }
-    ensures current { result ≡ 0 → view.new.changes ≡ h.old.marks.changes }
-    ensures unchanged_on_error { 1 ≤ result → view.new ≡ view.old }
-    ensures effect { h.new.segment.value ≡ Held segment.value }
-    ensures marks { h.new.marks ≡ h.old.marks }
-{
     if is_remembered(&segment, handle) {
         let object = object_here(&segment, handle);
         let run = element_run_of(&segment, object);
         let code = fill_view(&segment, &Key::Handle(handle), run, &h.marks, view);
         return put_taken_back(code, h, segment);
     }
-    view_searched(h, segment, handle, view)
-}
-
-/// Says where the elements of the object of a handle stand. It searches for the handle, and remembers it.
-#[inline(never)]
-fn view_searched(
-    h: &mut SegmentSlot,
-    segment: Box<Segment>,
-    handle: Handle,
-    view: &mut CView,
-) -> u32
-    ensures read { (d : Directory) → DenotesCurrent segment.value.cut.bytes d
-        → IsCoded (IsView view.new) result (run_at d (ByHandle handle)) }
-    ensures bytes { result ≡ 0 → HasView segment.value (ByHandle handle) view.new }
-    ensures current { result ≡ 0 → view.new.changes ≡ h.old.marks.changes }
-    ensures unchanged_on_error { 1 ≤ result → view.new ≡ view.old }
-    ensures effect { h.new.segment.value ≡ Held segment.value }
-    ensures marks { h.new.marks ≡ h.old.marks }
-{
-    let mut segment = segment;
-    segment.remember(handle);
-    let key = Key::Handle(handle);
-    let run = segment.element_run(&key);
-    let code = fill_view(&segment, &key, run, &h.marks, view);
-    put(code, h, segment)
+    put_taken_back(DONE, h, segment);
+    view_any(alloc, h, &ObjectKey::of_handle(handle), view)
 }
 
 /// Says where the elements of the object of a key stand, for any form of key.
 #[inline(never)]
 fn view_any(alloc: Global, h: &mut SegmentSlot, key: &ObjectKey<'_>, view: &mut CView) -> u32
-    ensures read { ReadsHandle (key_wrong key.now) result h.old h.new
-        (λ s. (d : Directory) → DenotesCurrent s.cut.bytes d
-        → IsCoded (IsView view.new) result (run_at d (key_of key.now))) }
-    ensures bytes { result ≡ 0 → HoldsSegment h.old.segment.value (λ s. HasView s (key_of key.now) view.new) }
-    ensures current { result ≡ 0 → view.new.changes ≡ h.old.marks.changes }
-    ensures outputs_on_error { 1 ≤ result → view.new ≡ view.old }
+    ensures elements { TellsView (key_wrong key.now) (key_of key.now) result h.old h.new view.old view.new }
 {
     let (which, segment) = passed!(enter(alloc, h, key));
     let run = segment.element_run(&which);

@@ -1,8 +1,7 @@
 -- The pairs above the key of a pair of a map are those behind it.
 use Rattle.std.proofs.Common.{◌≡◌, refl, sym, ap, subst, ◌∙◌, ℕ, suc, ◌<◌, ℤ, Bool, true, false, not, List, [], ◌∷◌}
 use Rattle.std.proofs.Common.{◌++◌, arith, if◌then◌else◌, int_lt, length, take, drop, get_or}
-use Rattle.std.proofs.Math.Seq.{drop-cons}
-use Rattle.std.proofs.lemmas.List.{append_assoc, take-append-drop}
+use Rattle.std.proofs.{lemmas.List.append_assoc, lemmas.List.take-append-drop, Math.Seq.drop-cons}
 use Rattle.raw_region.proofs.Facts.{first, second}
 use Rattle.seg_map.specs.{Listing.pairs_past, Map.is_rising, Numbers.NumberPair, Places.is_passed}
 use Rattle.seg_types.specs.ScalarLaws.{irreflexive, transitive}

@@ -1,11 +1,9 @@
 -- Series that are filled in parts.
 use Rattle.std.proofs.Common.{◌≡◌, refl, sym, ap, ◌∙◌, ℕ, ◌+◌, ◌≤◌, ℤ, List, length, map, take, drop, ◌++◌, arith, min}
+use Rattle.std.proofs.lemmas.List.{length-map, length-take-le, map-append, take_all, get_or-drop, get_or-map}
+use Rattle.std.proofs.lemmas.List.{get_or-take, length-append, length-drop, take-append-le}
+use Rattle.std.proofs.{Common.get_or, Common.◌-◌, Common.◌<◌, lemmas.List.Edits.paste-paste, lemmas.Simd.map-map}
 use Rattle.std.proofs.Math.Seq.{take-add}
-use Rattle.std.proofs.lemmas.List.{length-map, length-take-le, map-append, take_all}
-use Rattle.std.proofs.lemmas.List.Edits.{paste-paste}
-use Rattle.std.proofs.Common.{get_or, ◌<◌, ◌-◌}
-use Rattle.std.proofs.lemmas.List.{get_or-drop, get_or-map, get_or-take, length-append, length-drop, take-append-le}
-use Rattle.std.proofs.lemmas.Simd.{map-map}
 use Rattle.seg_map.specs.{Numbers.NumberPair, Places.item_of}
 use Rattle.segment_manager.specs.containers.Maps.{number_item}
 use Rattle.segment_c.specs.Series.{FillsSeries, ListsPairs, bits_of, item_key, item_value, key_bits, value_bits}

@@ -1,13 +1,12 @@
 -- Where elements stand, as it goes out.
 use Rattle.std.proofs.Common.{◌≡◌, refl, sym, subst, ◌+◌, ◌*◌, ◌%◌, ◌≤◌, ◌∙◌, ap, length}
 use Rattle.raw_region.specs.Memory.{HasBytesAt, bytes_of}
-use Rattle.seg_types.specs.{declared.kinds.ScalarKind.ScalarKind, Kinds.scalar_code, Kinds.size_of, Names.Key}
-use Rattle.seg_types.specs.Kinds.{scalar_of_code}
 use Rattle.seg_types.specs.declared.kinds.ScalarKind.TheVariants.{Bool as BoolKind, U8, I32, I64, U64}
-use Rattle.segment_manager.specs.declared.containers.element_runs.ElementRun.{ElementRun}
-use Rattle.segment_manager.specs.{containers.ElementRuns.IsRunOf, containers.ElementRuns.spelled_at, State.SegmentState}
-use Rattle.segment_c.specs.{declared.views.CView.CView, Views.HasView, Views.IsView}
-use Rattle.segment_c.specs.Passed.{scalar_kind_in}
+use Rattle.seg_types.specs.{Kinds.scalar_code, Kinds.scalar_of_code, Kinds.size_of, Names.Key}
+use Rattle.seg_types.specs.declared.kinds.ScalarKind.{ScalarKind}
+use Rattle.segment_manager.specs.containers.ElementRuns.{IsRunOf, spelled_at}
+use Rattle.segment_manager.specs.{declared.containers.element_runs.ElementRun.ElementRun, State.SegmentState}
+use Rattle.segment_c.specs.{declared.views.CView.CView, Passed.scalar_kind_in, Views.HasView, Views.IsView}
 
 -- a kind is the one that its code says
 code-back : (k : ScalarKind) → scalar_kind_in (scalar_code k) ≡ k

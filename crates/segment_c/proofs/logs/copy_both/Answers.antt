@@ -1,11 +1,9 @@
-use Rattle.std.proofs.Common.{◌≡◌, ◌≤◌, ◌∙◌, ℕ, ◌+◌, ◌-◌, List, [], ◌++◌, length, take, drop, ap, sym, arith}
-use Rattle.std.proofs.Common.{length-append, length-drop}
-use Rattle.std.proofs.lemmas.List.{append-nil, append_assoc, drop_all, drop-drop, take_all}
-use Rattle.std.proofs.Math.Seq.{drop-append_seam, take-append_seam}
 use borrow.Rule.Slice.PartMut.{put_mid}
-use Rattle.segment_c.specs.Images.{CopiesOut}
-use Rattle.segment_c.specs.Logs.{WritesOut}
 use Rattle.segment_c.proofs.logs.copy_both.Goals as goal
+use Rattle.std.proofs.Common.{◌≡◌, ◌≤◌, ◌∙◌, ℕ, ◌+◌, ◌-◌, List, [], ◌++◌, length, take, drop, ap, sym, arith}
+use Rattle.std.proofs.lemmas.List.{append-nil, append_assoc, drop_all, drop-drop, take_all}
+use Rattle.std.proofs.{Common.length-append, Common.length-drop, Math.Seq.drop-append_seam, Math.Seq.take-append_seam}
+use Rattle.segment_c.specs.{Images.CopiesOut, Logs.WritesOut}
 
 -- one text at the front of a buffer, and another copied behind it
 both : (first second old put new : List ℕ) (code : ℕ) → put ≡ first → length first ≤ length old

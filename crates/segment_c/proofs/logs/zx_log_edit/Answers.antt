@@ -1,9 +1,8 @@
+use Rattle.segment_c.proofs.logs.zx_log_edit.Goals as goal
 use Rattle.std.proofs.Common.{◌≡◌, ◌∙◌, List, ℕ, ◌++◌, length, ap, subst}
 use Rattle.std.proofs.lemmas.List.{append_assoc}
-use Rattle.segment_log.specs.Edits.{edit_text}
-use Rattle.segment_log.specs.Records.{number_bytes}
+use Rattle.segment_log.specs.{Edits.edit_text, Records.number_bytes}
 use Rattle.segment_c.specs.Logs.{WritesOut}
-use Rattle.segment_c.proofs.logs.zx_log_edit.Goals as goal
 
 pub returns : goal.returns
 unfolding number_bytes

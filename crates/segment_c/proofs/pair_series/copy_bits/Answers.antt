@@ -1,12 +1,10 @@
 -- Each pair's words go to their places.
-use Rattle.std.proofs.Common.{◌≡◌, ◌∙◌, ap, sym, ℕ, ℤ, ◌+◌, ◌≤◌, ◌<◌, List, length, map, arith, get_or, slice_set, w64}
-use Rattle.std.proofs.Common.{of_z, to_z}
-use Rattle.std.specs.Int.Signed.{mag}
-use Rattle.std.proofs.lemmas.Int.{to_z-of_z}
-use Rattle.std.proofs.lemmas.List.{get_or-map, length-map}
-use Rattle.std.proofs.lemmas.List.Edits.{paste_more, paste_none}
-use Rattle.segment_c.specs.Series.{item_key, item_value, written}
 use Rattle.segment_c.proofs.pair_series.copy_bits.Goals as goal
+use Rattle.std.proofs.Common.{◌≡◌, ◌∙◌, ap, sym, ℕ, ℤ, ◌+◌, ◌≤◌, ◌<◌, List, length, map, arith, get_or, slice_set, w64}
+use Rattle.std.proofs.{Common.of_z, Common.to_z, lemmas.List.Edits.paste_more, lemmas.List.Edits.paste_none}
+use Rattle.std.proofs.{lemmas.Int.to_z-of_z, lemmas.List.get_or-map, lemmas.List.length-map}
+use Rattle.std.specs.Int.Signed.{mag}
+use Rattle.segment_c.specs.Series.{item_key, item_value, written}
 
 -- a number of 64 bits is read as it was written
 read-back : (z : ℤ) → mag z < 9223372036854775808 → to_z w64 (of_z w64 z) ≡ z

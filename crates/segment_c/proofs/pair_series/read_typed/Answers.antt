@@ -1,12 +1,9 @@
 -- Each walk goes on where the one before ended, until the rows are full or no pair is left.
-use Rattle.std.proofs.Common.{◌≡◌, ◌∙◌, refl, ap, sym, subst, ◌+◌, ◌-◌, ◌≤◌, ◌<◌, ℕ, suc, List, [], ◌∷◌, ◌++◌}
-use Rattle.std.proofs.Common.{Some, arith, drop, get_or, int_lt, length, min, take, true}
-use Rattle.std.proofs.lemmas.List.{length-append, length-take-le}
-use Rattle.std.proofs.Common.{Bor, None, Option, slice_get}
-use Rattle.std.specs.Option.{option_copied}
-use Rattle.std.proofs.lemmas.Option.{get_or_from_slice_get, slice_get-get_or}
+use Rattle.std.proofs.Common.{◌≡◌, ◌∙◌, ap, sym, ◌+◌, ◌-◌, ◌≤◌, ◌<◌, ℕ, suc, List, [], ◌∷◌, ◌++◌}
+use Rattle.std.proofs.Common.{arith, drop, get_or, int_lt, length, min, take, true}
+use Rattle.std.proofs.lemmas.List.{get_or-take, get_or_default, length-append, length-take-le}
 use Rattle.seg_map.specs.{Listing.pairs_past, Numbers.NumberPair}
-use Rattle.seg_types.specs.Keys.{key_seen}
+use Rattle.seg_types.specs.Names.{ByHandle}
 use Rattle.segment_manager.proofs.Laws.{map-rises}
 use Rattle.segment_manager.specs.containers.Walks.{pairs_at_kinds}
 use Rattle.segment_c.proofs.pair_series.Behind.{goes-on}
@@ -28,26 +25,29 @@ first-of : (ps : List NumberPair) → 0 < length ps → NumberPair
 first-of [] less = absurd (omega (arith, less))
 first-of (p ∷ ps) less = p
 
--- a row with no last item is empty
-no-last : {X : Type 0} (r : Option (Bor X)) (row : List X) → ((x : Bor X) → r ≡ Some x → ⊥)
-    → option_copied r ≡ slice_get row (length row - 1) → length row ≡ 0
-no-last None [] n e = refl
-no-last None (y ∷ ys) n e =
-    absurd (let it : None ≡ Some (get_or (y ∷ ys) (length (y ∷ ys) - 1) y) =
-    e ∙ slice_get-get_or (y ∷ ys) (length (y ∷ ys) - 1) y (omega arith) in cc)
-no-last (Some x) row n e = absurd (n x refl)
+-- the last item of a walk that filled the list
+last-of : {A : Type 0} (old new : List A) (room m : ℕ) (d : A) → length new ≡ length (take room old)
+    → m ≤ length (take room old) → 0 < m → room ≤ m → length (take room old) ≡ room
+    → let x = get_or (new ++ drop room old) (room - 1) d in x ≡ get_or (take m (new ++ drop room old)) (m - 1) x
+last-of old new room m d same few some full long =
+    let x = get_or (new ++ drop room old) (room - 1) d in
+    let all : room ≡ m = omega (arith, few, full, long) in
+    get_or_default (new ++ drop room old) (room - 1) d x
+    (omega (arith, few, some, full, long, same, length-append new (drop room old)))
+    ∙ ap (λ j. get_or (new ++ drop room old) (j - 1) x) all
+    ∙ sym (get_or-take m (new ++ drop room old) (m - 1) x (omega (arith, some)))
 
-pub slice_bounds-part-end : goal.slice_bounds-part-end
-slice_bounds-part-end g c = omega (
+pub slice_bounds-copy_bits-end : goal.slice_bounds-copy_bits-end
+slice_bounds-copy_bits-end g c = omega (
   arith,
   c.walk-count.ensures.in_bounds,
   c.walk-count.auto.list,
   length-append c.walk-count.new.list (drop c.min-room.result c.walks.list),
 )
 
-pub slice_bounds-part-end-in-walks : goal.slice_bounds-part-end-in-walks
-slice_bounds-part-end-in-walks g c = part-long c.walks.list c.walk-count.new.list c.min-room.result c.walk-count.result
-    c.walk-count.auto.list c.walk-count.ensures.in_bounds
+pub slice_bounds-copy_bits-end-in-walks : goal.slice_bounds-copy_bits-end-in-walks
+slice_bounds-copy_bits-end-in-walks g c = part-long c.walks.list c.walk-count.new.list c.min-room.result
+    c.walk-count.result c.walk-count.auto.list c.walk-count.ensures.in_bounds
 
 pub copy_bits-requires-clause-keys : goal.copy_bits-requires-clause-keys
 copy_bits-requires-clause-keys g c = omega (
@@ -87,7 +87,7 @@ overflow_add-read g c = omega (
 
 pub returns-then-count-room : goal.returns-then-count-room
 returns-then-count-room g c = λ d st.
-    let its = pairs_at_kinds d (key_seen c.args.key.now) g.K.Scalar.kind g.V.Scalar.kind in
+    let its = pairs_at_kinds d (ByHandle c.args.object.handle) g.K.Scalar.kind g.V.Scalar.kind in
     let all = pairs_past int_lt c.args.past (g.K.Scalar.whole c.args.from) its in
     let rest = pairs_past int_lt c.walks.above (g.K.Scalar.whole c.walks.after) its in
     let was = c.walks.invariant.pairs d st in
@@ -113,42 +113,6 @@ returns-then-count-room g c = λ d st.
       was.there,
     )) rows.0 rows.1
 
-pub returns-in_default : goal.returns-in_default
-returns-in_default g c = λ d st.
-    let its = pairs_at_kinds d (key_seen c.args.key.now) g.K.Scalar.kind g.V.Scalar.kind in
-    let all = pairs_past int_lt c.args.past (g.K.Scalar.whole c.args.from) its in
-    let rest = pairs_past int_lt c.walks.above (g.K.Scalar.whole c.walks.after) its in
-    let was = c.walks.invariant.pairs d st in
-    let lists = c.walk-count.ensures.list d st in
-    let room = had-room c.walks.list c.min-room.result (c.min-capacity.result - c.walks.read) c.min-room.ensures in
-    let none = no-last c.last.result
-    (take c.walk-count.result (c.walk-count.new.list ++ drop c.min-room.result c.walks.list)) c.in_default.not-Some
-    c.last.ensures.value in
-    let rows = both-next g.K.Scalar.whole g.V.Scalar.whole all rest c.walks.list c.walk-count.new.list c.walks.read
-    c.min-room.result c.walk-count.result was.there was.rest c.walk-count.auto.list c.walk-count.ensures.in_bounds lists
-    c.args.keys.now c.walks.keys c.copy_bits.new.keys c.args.values.now c.walks.values c.copy_bits.new.values
-    was.keys was.values c.copy_bits.ensures.keys c.copy_bits.ensures.values in
-    all-filled all c.args.keys.now c.copy_bits.new.keys c.args.values.now c.copy_bits.new.values
-    (c.walks.read + c.walk-count.result)
-    (omega (
-      arith,
-      none,
-      part-long c.walks.list c.walk-count.new.list c.min-room.result c.walk-count.result
-          c.walk-count.auto.list c.walk-count.ensures.in_bounds,
-      room,
-      c.min-room.ensures,
-      c.min-capacity.ensures,
-      c.walks.invariant.within,
-      c.walks-test.true,
-      c.requires.min_len,
-      c.walks.auto.list,
-      lists.count_is,
-      left g.K.Scalar.whole g.V.Scalar.whole all rest c.walks.list c.walk-count.new.list c.walks.read
-          c.min-room.result c.walk-count.result was.there was.rest c.walk-count.auto.list c.walk-count.ensures.in_bounds
-          lists,
-      was.there,
-    )) rows.0 rows.1
-
 pub walks-preserved : goal.walks-preserved
 walks-preserved g c =
     let n = c.walks.read in
@@ -157,13 +121,14 @@ walks-preserved g c =
     record {
       within = omega (arith, room, c.min-room.ensures, c.walk-count.ensures.in_bounds, c.walks.invariant.within);
       pairs = λ d st.
-          let its = pairs_at_kinds d (key_seen c.args.key.now) g.K.Scalar.kind g.V.Scalar.kind in
+          let its = pairs_at_kinds d (ByHandle c.args.object.handle) g.K.Scalar.kind g.V.Scalar.kind in
           let all = pairs_past int_lt c.args.past (g.K.Scalar.whole c.args.from) its in
           let rest = pairs_past int_lt c.walks.above (g.K.Scalar.whole c.walks.after) its in
           let was = c.walks.invariant.pairs d st in
           let lists = c.walk-count.ensures.list d st in
           let row = take m (c.walk-count.new.list ++ drop c.min-room.result c.walks.list) in
-          let x = c.in-Some.field-0.now in
+          let x = get_or (c.walk-count.new.list ++ drop c.min-room.result c.walks.list) (c.min-room.result - 1)
+          c.index-list-room.result in
           let fewer = left g.K.Scalar.whole g.V.Scalar.whole all rest c.walks.list c.walk-count.new.list n
           c.min-room.result m was.there was.rest c.walk-count.auto.list c.walk-count.ensures.in_bounds lists in
           let some : 0 < m = omega (
@@ -176,10 +141,9 @@ walks-preserved g c =
           ) in
           let there : n + m ≤ length all = omega (arith, lists.count_is, fewer, was.there) in
           let p = first-of all (omega (arith, some, there)) in
-          let last : x ≡ get_or row (m - 1) x = subst (λ j. x ≡ get_or row (j - 1) x)
-          (sym (part-long c.walks.list c.walk-count.new.list c.min-room.result m c.walk-count.auto.list
-          c.walk-count.ensures.in_bounds))
-          (sym (get_or_from_slice_get row (length row - 1) x x (sym c.in-Some.ensures.value))) in
+          let last : x ≡ get_or row (m - 1) x = last-of c.walks.list c.walk-count.new.list c.min-room.result m
+          c.index-list-room.result c.walk-count.auto.list c.walk-count.ensures.in_bounds some c.if-count-room.false
+          room in
           let rows = both-next g.K.Scalar.whole g.V.Scalar.whole all rest c.walks.list c.walk-count.new.list n
           c.min-room.result m was.there was.rest c.walk-count.auto.list c.walk-count.ensures.in_bounds lists
           c.args.keys.now c.walks.keys c.copy_bits.new.keys c.args.values.now c.walks.values c.copy_bits.new.values
@@ -190,7 +154,8 @@ walks-preserved g c =
                 c.walks.list c.walk-count.new.list n c.min-room.result m was.there was.rest c.walk-count.auto.list
                 c.walk-count.ensures.in_bounds lists x p some last)
                 ∙ goes-on c.args.past (g.K.Scalar.whole c.args.from) its
-                (map-rises d (key_seen c.args.key.now) g.K.Scalar.kind g.V.Scalar.kind c.args.segment.now.cut.bytes
+                (map-rises d (ByHandle c.args.object.handle) g.K.Scalar.kind g.V.Scalar.kind
+                c.args.segment.now.cut.bytes
                 st.denotes) (n + (m - 1)) p (omega (arith, some, there))
                 ∙ ap (λ j. drop j all) (let end : suc (n + (m - 1)) ≡ n + m = omega (arith, some) in end);
             keys = rows.0;
@@ -200,7 +165,7 @@ walks-preserved g c =
 
 pub returns : goal.returns
 returns g c = λ d st.
-    let its = pairs_at_kinds d (key_seen c.args.key.now) g.K.Scalar.kind g.V.Scalar.kind in
+    let its = pairs_at_kinds d (ByHandle c.args.object.handle) g.K.Scalar.kind g.V.Scalar.kind in
     let all = pairs_past int_lt c.args.past (g.K.Scalar.whole c.args.from) its in
     let was = c.walks.invariant.pairs d st in
     all-filled all c.args.keys.now c.walks.keys c.args.values.now c.walks.values c.walks.read

@@ -73,10 +73,10 @@ pub fn rotate<N: NodesMut>(visits: &mut NodeCursorMut<N>, top: u64, side: Side) 
 /// Makes a node red and its children black.
 fn flip_colours<N: NodesMut>(visits: &mut NodeCursorMut<N>, top: u64, near: u64, far: Option<u64>)
     requires node { N.is_node visits.old.nodes.now top ≡ true }
-    requires near { N.is_node visits.old.nodes.now near ≡ true }
-    requires far { leads (N.is_node visits.old.nodes.now) far ≡ true }
+    requires child { N.is_node visits.old.nodes.now near ≡ true }
+    requires link { leads (N.is_node visits.old.nodes.now) far ≡ true }
     requires no_overflow { visits.old.steps + 3 < 2 ^ 64 }
-    ensures flip { (side : Side) (t : Tree) → IsTree (N.cells visits.old.nodes.now) (Some top) t
+    ensures colour { (side : Side) (t : Tree) → IsTree (N.cells visits.old.nodes.now) (Some top) t
         → is_sorted (N.order visits.old.nodes.now) (nodes_of t) ≡ true
         → child_of side (N.cells visits.old.nodes.now top) ≡ Some near
         → child_of (opposite side) (N.cells visits.old.nodes.now top) ≡ far

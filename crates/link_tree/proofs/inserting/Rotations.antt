@@ -175,6 +175,7 @@ outer_same : (side : Side) (a : Tree) (m : ℕ) (b : Tree) (n : ℕ) (far : Tree
     → has_black_root b ≡ true → balanced_outer side a m b n far ≡ joined_at side false (joined_at side true a m b) n far
 outer_same side a m b n far j k = let e = ap not j in rw e (inner_same side a m b n far k)
 
+-- nor by the choice between colours and rotations
 pub red_same : (side : Side) (a : Tree) (m : ℕ) (b : Tree) (n : ℕ) (far : Tree) → has_black_root a ≡ true
     → has_black_root b ≡ true → balanced_red side a m b n far ≡ joined_at side false (joined_at side true a m b) n far
 red_same side a m b n far j k =
@@ -364,7 +365,8 @@ module _ {lt : ℕ → ℕ → Bool} (strict : IsStrict lt) where
       apart.near_of_far (ap (is_in top) nodes2 ∙ apart.not_near) apart.not_far top_cell rest3 in
       let nodes3 = nodes_of-joined side false false old new' top far nodes2 in
       let o3 : is_sorted lt (nodes_of (joined_at side false new' top far)) ≡ true = ap (is_sorted lt) nodes3 ∙ o in
-      let l4 = rw (rotated-joined side false true up' k q top far) at (lift2 (joined_at side false new' top far) t3 o3) in
+      let l4 = rw (rotated-joined side false true up' k q top far) at
+      (lift2 (joined_at side false new' top far) t3 o3) in
       record {
         tree = l4.tree;
         frame = λ m i.

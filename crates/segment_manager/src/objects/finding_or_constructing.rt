@@ -32,8 +32,8 @@ impl Segment {
     ///
     /// # Conditions
     ///
-    /// `count` is from 1 to 1048576; `find_or_construct_array` has no such condition. The key suits the kind: a key with
-    /// a kind has this kind ([`ConstructKey`]).
+    /// `count` is from 1 to 1048576; `find_or_construct_array` has no such condition. The key suits the kind: a key
+    /// with a kind has this kind ([`ConstructKey`]).
     ///
     /// # Errors
     ///

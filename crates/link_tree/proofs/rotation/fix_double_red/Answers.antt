@@ -11,7 +11,8 @@ use Rattle.link_tree.proofs.rotation.fix_double_red.Goals.{After-child-inner}
 use Rattle.link_tree.proofs.rotation.fix_double_red.Given.{Over}
 
 -- the fields of the top node and of its child that were read
-record IsRead (g : Over) (s now : g.row.N.Denot) (top near : ℕ) (side : Side) (far outer inner : Option ℕ) : Type 0 where
+record IsRead (g : Over) (s now : g.row.N.Denot) (top near : ℕ) (side : Side)
+    (far outer inner : Option ℕ) : Type 0 where
   here : now ≡ s
   near_is : child_of side (g.N.Nodes.cells s top) ≡ Some near
   far_is : child_of (opposite side) (g.N.Nodes.cells s top) ≡ far
@@ -70,7 +71,7 @@ returns-then-is_red-2-clause-balanced g c = λ t w o.
     let e2 : c.is_red-then-is_red.new.visits.nodes.now ≡ s = c.is_red-then-is_red.ensures.nodes ∙ e1 in
     let red = tells g s _ _ _ _ true c.is_red.ensures.value r.here r.outer_is c.if-is_red.true in
     let far = tells g s _ _ _ _ true c.is_red-then-is_red.ensures.value e1 r.far_is c.if-is_red-2.true in
-    let flip = rw e2 at c.flip_colours.ensures.flip in
+    let flip = rw e2 at c.flip_colours.ensures.colour in
     balance_flipped (strict g.met.N.Nodes s) c.args.side (g.N.Nodes.cells s)
     (g.N.Nodes.cells c.flip_colours.new.visits.nodes.now) c.args.top c.in-Some.near t w r.near_is r.top_black r.near_red
     (λ u v a b. or_left (is_red_tree u) (is_red_tree v) (sym (red u a))) far
@@ -102,7 +103,7 @@ returns-then-is_red-4-clause-balanced g c = λ t w o.
     let e3 : c.is_red-then-is_red-3.new.visits.nodes.now ≡ s = c.is_red-then-is_red-3.ensures.nodes ∙ e2 in
     let red = tells g s _ _ _ _ true c.is_red-2.ensures.value e1 r.inner_is c.if-is_red-3.true in
     let far = tells g s _ _ _ _ true c.is_red-then-is_red-3.ensures.value e2 r.far_is c.if-is_red-4.true in
-    let flip = rw e3 at c.flip_colours-then-is_red-4.ensures.flip in
+    let flip = rw e3 at c.flip_colours-then-is_red-4.ensures.colour in
     balance_flipped (strict g.met.N.Nodes s) c.args.side (g.N.Nodes.cells s)
     (g.N.Nodes.cells c.flip_colours-then-is_red-4.new.visits.nodes.now) c.args.top c.in-Some.near t w r.near_is
     r.top_black r.near_red (λ u v a b. or_right (is_red_tree u) (is_red_tree v) (sym (red v b))) far

@@ -3,8 +3,8 @@ use Rattle.link_tree.proofs.inserting.Rotations.{flip_turns}
 use Rattle.link_tree.proofs.trees.NodeLaws.{strict}
 use Rattle.link_tree.proofs.rotation.flip_colours.Goals as goal
 
-pub returns-clause-flip : goal.returns-clause-flip
-returns-clause-flip g c = λ side t w o e1 e2.
+pub returns-clause-colour : goal.returns-clause-colour
+returns-clause-colour g c = λ side t w o e1 e2.
     let s = c.args.visits.now.nodes.now in
     let eo : g.N.Nodes.order c.paint.new.visits.nodes.now ≡ g.N.Nodes.order s = c.paint.ensures.keeper.order in
     let near_black = rw eo at c.paint-2.ensures.colour in

@@ -1,5 +1,6 @@
 -- The elements are read from the object that is located.
-use Rattle.std.proofs.Common.{◌≡◌, ◌∙◌, Err, List, None, Ok, Option, Result, Some, ap, length, map, refl, subst, sym, ℕ, ℤ}
+use Rattle.std.proofs.Common.{◌≡◌, ◌∙◌, Err, List, None, Ok, Option, Result, Some, ap, length, map, refl, subst, sym}
+use Rattle.std.proofs.Common.{ℕ, ℤ}
 use Rattle.seg_types.specs.{Keys.key_seen, declared.kinds.ScalarKind.ScalarKind, declared.refusals.Refusal.Refusal}
 use Rattle.seg_types.specs.declared.refusals.Refusal.TheVariants.{NotFound}
 use Rattle.segment_c.specs.Reads.{IsCoded}

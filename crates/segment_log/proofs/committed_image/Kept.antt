@@ -11,6 +11,7 @@ use Rattle.segment_log.specs.Committing.{CommitsRecord, CrashLeaves, MakesCheckp
 use Rattle.segment_log.specs.CommittedImages.{IsCommitted, EndsCommitted, CommitsImage, PlacesCommitted}
 use Rattle.segment_log.specs.declared.committed_image.CommittedImage.{CommittedImage}
 use Rattle.segment_log.specs.declared.committing.CommitError.{CommitError}
+use Rattle.segment_log.specs.declared.committing.CommitError.TheVariants.{OutOfMemory}
 use Rattle.segment_log.proofs.theorems.Repair.{none_at_start}
 
 -- ---- calls that asked for nothing
@@ -40,11 +41,12 @@ module _ {D : Type 0} (step : D → LogEvent → D → Type 0) (old : D) (kept :
     on_error = tt;
     noop = λ is. refl;
     refused = λ is. refl;
+    fault = λ is. absurd (cc is);
   }
 
   -- a commit without memory
-  pub refused : (why : CommitError) → CommitsImage step old old kept kept image (Err why)
-  refused why = record {
+  pub refused : CommitsImage step old old kept kept image (Err OutOfMemory)
+  refused = record {
     events = [];
     asked = refl;
     crash = λ files is. nothing files (IsMidCommit kept.image.items image) (mid_now files kept image is);
@@ -52,6 +54,7 @@ module _ {D : Type 0} (step : D → LogEvent → D → Type 0) (old : D) (kept :
     on_error = refl;
     noop = λ is. refl;
     refused = λ is. refl;
+    fault = λ is. absurd (cc is);
   }
 
 -- ---- a commit
@@ -80,6 +83,7 @@ module _ {D : Type 0} (step : D → LogEvent → D → Type 0) (old new : D) (ke
     on_error = refl;
     noop = λ is. absurd (changed is);
     refused = ⊎_elim (λ is. w.refused (inl (cc is))) (λ is. w.refused (inr (cc is)));
+    fault = λ is. w.fault (cc is);
   }
 
   -- a commit that is done
@@ -106,6 +110,7 @@ module _ {D : Type 0} (step : D → LogEvent → D → Type 0) (old new : D) (ke
     on_error = tt;
     noop = λ is. absurd (changed is);
     refused = ⊎_elim (λ is. absurd (cc is)) (λ is. absurd (cc is));
+    fault = λ is. absurd (cc is);
   }
 
 -- ---- a checkpoint
@@ -132,6 +137,7 @@ module _ {D : Type 0} (step : D → LogEvent → D → Type 0) (old : D) (kept :
     };
     unchanged = refl;
     on_error = tt;
+    cause = tt;
   }
 
 module _ {D : Type 0} (step : D → LogEvent → D → Type 0) (old new : D) (kept : CommittedImage) (some : 0 < kept.end)
@@ -150,6 +156,7 @@ module _ {D : Type 0} (step : D → LogEvent → D → Type 0) (old new : D) (ke
     on_ok = tt;
     unchanged = refl;
     on_error = refl;
+    cause = w.cause;
   }
 
   -- a checkpoint that is done
@@ -177,4 +184,5 @@ module _ {D : Type 0} (step : D → LogEvent → D → Type 0) (old new : D) (ke
         };
     unchanged = same;
     on_error = tt;
+    cause = tt;
   }

@@ -1,5 +1,5 @@
 -- The image of the last commit, which is kept in memory, and the file and the log that stand for it.
-use Rattle.std.specs.Prelude.{◌≡◌, ◌⊎◌, ℕ, false, List, [], Result, Err, IfErr, OnOk}
+use Rattle.std.specs.Prelude.{◌≡◌, ◌⊎◌, ◌≤◌, ◌^◌, ℕ, false, List, [], length, Result, Err, IfErr, OnOk}
 use Rattle.segment_log.specs.Crashes.{LoggedFile, Only}
 use Rattle.segment_log.specs.Committing.{AsksFor, CrashLeaves, HasCause}
 use Rattle.segment_log.specs.Events.{LogEvent, all_done, seen_in_the_end, leaves_after}
@@ -37,6 +37,7 @@ pub record CommitsImage {D : Type 0} (step : D → LogEvent → D → Type 0) (o
   pub on_error : IfErr result (λ why. now ≡ kept)
   pub noop : kept.image.items ≡ image → events ≡ []
   pub refused : (result ≡ Err OutOfMemory) ⊎ (result ≡ Err TooLong) → events ≡ []
+  pub too_long : result ≡ Err TooLong → (2 ^ 40 ≤ kept.end) ⊎ (2 ^ 35 ≤ length image)
   pub fault : result ≡ Err WriteFault → all_done events ≡ false
 
 -- the calls of a checkpoint are done: the file has the image that is kept, and its log no record

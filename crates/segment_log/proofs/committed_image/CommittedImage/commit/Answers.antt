@@ -31,7 +31,7 @@ returns-in_err-self g c =
     rw (p.1, p.2) (failed g.D.LogDisk.log_step c.args.disk.now c.commit.new.disk c.args.self.now c.args.image.now
     c.deref-2.result.now c.in_ok-payload.payload.items c.deref.result.now c.deref-2.ensures.value
     c.deref.ensures.value changed c.in_ok-payload.ensures.changes c.in_ok-payload.ensures.base
-    c.in_ok-payload.ensures.after small _ c.in_err-self.ensures)
+    c.in_ok-payload.ensures.after small c.in_ok-payload.ensures.max_len _ c.in_err-self.ensures)
 
 pub returns : goal.returns
 returns g c =
@@ -42,4 +42,5 @@ returns g c =
     done g.D.LogDisk.log_step c.args.disk.now c.commit.new.disk c.args.self.now c.args.image.now
     c.deref-2.result.now c.in_ok-payload.payload.items c.deref.result.now c.deref-2.ensures.value
     c.deref.ensures.value changed c.in_ok-payload.ensures.changes c.in_ok-payload.ensures.base
-    c.in_ok-payload.ensures.after small _ c.in_ok-self.ensures _ c.in_ok-kept.ensures refl refl
+    c.in_ok-payload.ensures.after small c.in_ok-payload.ensures.max_len _ c.in_ok-self.ensures _
+    c.in_ok-kept.ensures refl refl

@@ -1,14 +1,14 @@
 -- The image of the last commit, which is kept in memory, and the file and the log that stand for it.
-use Rattle.std.specs.Prelude.{◌≡◌, ◌⊎◌, ℕ, List, [], Result, Err, IfErr, OnOk}
+use Rattle.std.specs.Prelude.{◌≡◌, ◌⊎◌, ◌≤◌, ◌^◌, ℕ, false, List, [], length, Result, Err, IfErr, OnOk}
 use Rattle.segment_log.specs.Crashes.{LoggedFile, Only}
-use Rattle.segment_log.specs.Committing.{AsksFor, CrashLeaves}
-use Rattle.segment_log.specs.Events.{LogEvent, seen_in_the_end, leaves_after}
+use Rattle.segment_log.specs.Committing.{AsksFor, CrashLeaves, HasCause}
+use Rattle.segment_log.specs.Events.{LogEvent, all_done, seen_in_the_end, leaves_after}
 use Rattle.segment_log.specs.Fingerprints.{fingerprint}
 use Rattle.segment_log.specs.Openings.{IsReady}
 use Rattle.segment_log.specs.Tags.{IsMidCommit, KeepsImage}
 use Rattle.segment_log.specs.declared.committed_image.CommittedImage.{CommittedImage}
 use Rattle.segment_log.specs.declared.committing.CommitError.{CommitError}
-use Rattle.segment_log.specs.declared.committing.CommitError.TheVariants.{OutOfMemory, TooLong}
+use Rattle.segment_log.specs.declared.committing.CommitError.TheVariants.{OutOfMemory, TooLong, WriteFault}
 
 -- the file, with its own log, stands for the image that is kept, and the log can take a record where it is to be
 pub record IsCommitted (files : LoggedFile) (kept : CommittedImage) : Type 0 where
@@ -37,6 +37,8 @@ pub record CommitsImage {D : Type 0} (step : D → LogEvent → D → Type 0) (o
   pub on_error : IfErr result (λ why. now ≡ kept)
   pub noop : kept.image.items ≡ image → events ≡ []
   pub refused : (result ≡ Err OutOfMemory) ⊎ (result ≡ Err TooLong) → events ≡ []
+  pub too_long : result ≡ Err TooLong → (2 ^ 40 ≤ kept.end) ⊎ (2 ^ 35 ≤ length image)
+  pub fault : result ≡ Err WriteFault → all_done events ≡ false
 
 -- the calls of a checkpoint are done: the file has the image that is kept, and its log no record
 pub record EndsInFile (files : LoggedFile) (events : List LogEvent) (kept : CommittedImage) : Type 0 where
@@ -52,3 +54,4 @@ pub record PlacesCommitted {D : Type 0} (step : D → LogEvent → D → Type 0)
   pub on_ok : OnOk result ((files : LoggedFile) → IsCommitted files kept → EndsInFile files events now)
   pub unchanged : now.image ≡ kept.image
   pub on_error : IfErr result (λ why. now ≡ kept)
+  pub cause : IfErr result (λ why. HasCause why events)

@@ -1,16 +1,16 @@
 -- The calls to a disk for a commit, an opening and a checkpoint, and what a crash leaves at each moment.
-use Rattle.std.specs.Prelude.{◌≡◌, ◌⊎◌, ◌<◌, ◌≤◌, ◌&&◌, ◌^◌, ℕ, Bool, List, [], ◌∷◌, length}
+use Rattle.std.specs.Prelude.{◌≡◌, ◌⊎◌, ◌<◌, ◌≤◌, ◌&&◌, ◌^◌, ℕ, Bool, false, List, [], ◌∷◌, length}
 use Rattle.std.specs.Prelude.{take}
-use Rattle.std.specs.Prelude.{Result, Err, IfOk, OnOk, is_ok}
+use Rattle.std.specs.Prelude.{Result, Err, IfErr, IfOk, OnOk, is_ok}
 use Rattle.segment_log.specs.Crashes.{LoggedFile}
 use Rattle.segment_log.specs.Records.{IsAjar, IsEndOfLog}
 use Rattle.segment_log.specs.Edits.{stands_for}
-use Rattle.segment_log.specs.Events.{LogEvent, leaves_after, seen_in_the_end}
+use Rattle.segment_log.specs.Events.{LogEvent, all_done, leaves_after, seen_in_the_end}
 use Rattle.segment_log.specs.Laws.{through_events}
 use Rattle.segment_log.specs.Openings.{IsReady, IsPayloadFor, EndsReady}
 use Rattle.segment_log.specs.Tags.{AreTogether, IsMidCommit, KeepsImage}
 use Rattle.segment_log.specs.declared.committing.CommitError.{CommitError}
-use Rattle.segment_log.specs.declared.committing.CommitError.TheVariants.{OutOfMemory, TooLong}
+use Rattle.segment_log.specs.declared.committing.CommitError.TheVariants.{OutOfMemory, TooLong, WriteFault}
 use Rattle.segment_log.specs.declared.log_disk.LogFault.{LogFault}
 
 -- The disk got exactly these calls, in this order, and they led from the old state to the new one, each by a step.
@@ -31,6 +31,12 @@ pub record WritesThrough {D : Type 0} (step : D → LogEvent → D → Type 0) (
 abbrev pub CrashLeaves : LoggedFile → List LogEvent → (LoggedFile → Type 0) → Type 0
 CrashLeaves files events P = (k : ℕ) (c : LoggedFile) → leaves_after files (take k events) c → P c
 
+-- why a call is refused that takes no payload: memory, before the first call to the disk, or a call that failed
+abbrev pub HasCause : CommitError → List LogEvent → Type 0
+HasCause OutOfMemory events = events ≡ []
+HasCause TooLong events = ⊥
+HasCause WriteFault events = all_done events ≡ false
+
 -- The call adds a record. A crash at any moment leaves the last image or the new one, with its own log; after Ok each
 -- crash leaves the new one, and the log can take another record.
 pub record CommitsRecord {D : Type 0} (step : D → LogEvent → D → Type 0) (old new : D) (end : ℕ) (payload : List ℕ)
@@ -46,6 +52,8 @@ pub record CommitsRecord {D : Type 0} (step : D → LogEvent → D → Type 0) (
   -- a commit that returns OutOfMemory or TooLong makes no call to the disk
   pub refused : (result ≡ Err OutOfMemory) ⊎ (result ≡ Err TooLong) → events ≡ []
   pub too_long : result ≡ Err TooLong → (2 ^ 40 ≤ end) ⊎ (2 ^ 40 ≤ length payload)
+  -- a commit that returns WriteFault made a call that failed
+  pub fault : result ≡ Err WriteFault → all_done events ≡ false
 
 -- The call shuts the gate at the end of a log. A crash at any moment leaves the same image, with its own log; after Ok
 -- the log can take a record.
@@ -57,6 +65,7 @@ pub record ShutsGate {D : Type 0} (step : D → LogEvent → D → Type 0) (old 
       → CrashLeaves files events (KeepsImage (stands_for files))
   pub on_ok : OnOk result ((files : LoggedFile) → IsEndOfLog 4096 files.log end → AreTogether files
       → EndsReady files events end (stands_for files))
+  pub cause : IfErr result (λ why. HasCause why events)
 
 -- The call replaces the file by the image, and empties the log. A crash at any moment leaves the image, with its own
 -- log; after Ok the file has the image, and the log can take a record.
@@ -68,3 +77,4 @@ pub record MakesCheckpoint {D : Type 0} (step : D → LogEvent → D → Type 0)
       → CrashLeaves files events (KeepsImage image)
   pub on_ok : OnOk result ((files : LoggedFile) (end : ℕ) → IsReady files end image → 0 < end
       → EndsReady files events 0 image)
+  pub cause : IfErr result (λ why. HasCause why events)

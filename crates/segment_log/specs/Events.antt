@@ -1,5 +1,5 @@
 -- What a disk was asked of a file and its log, and what a crash may leave then.
-use Rattle.std.specs.Prelude.{◌≡◌, ℕ, ◌+◌, Bool, true, false, List, [], ◌∷◌, ◌++◌, length, take, drop}
+use Rattle.std.specs.Prelude.{◌≡◌, ℕ, ◌+◌, ◌&&◌, Bool, true, false, List, [], ◌∷◌, ◌++◌, length, take, drop}
 use Rattle.segment_log.specs.Crashes.{LoggedFile, TornFrom, ReplacedFrom}
 
 -- one call for the log or the file, with its answer
@@ -10,6 +10,13 @@ pub data LogEvent : Type 0 where
   Synced : Bool → LogEvent
   -- a new file of these bytes was to take the place of the file for good; it did, or need not have
   Placed : List ℕ → Bool → LogEvent
+
+-- no call failed
+abbrev pub all_done : List LogEvent → Bool
+all_done [] = true
+all_done (Wrote at bytes ok ∷ es) = ok && all_done es
+all_done (Synced ok ∷ es) = ok && all_done es
+all_done (Placed image ok ∷ es) = ok && all_done es
 
 -- what reads return then; nothing more is asked after a call that failed
 abbrev pub seen_after : LoggedFile → LogEvent → LoggedFile

@@ -34,8 +34,8 @@ impl CommittedImage {
     ///
     /// # Errors
     ///
-    /// `OutOfMemory`, `TooLong`: nothing was written. `WriteFault`: the file and its log stand for the last image or
-    /// the new one, and no commit may follow.
+    /// `OutOfMemory`, or `TooLong` with a log of 2^40 bytes or an image of 2^35: nothing was written. `WriteFault`: the
+    /// file and its log stand for the last image or the new one, and no commit may follow.
     pub fn commit<D: LogDisk>(
         &mut self,
         alloc: Global,

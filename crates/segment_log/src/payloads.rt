@@ -1,5 +1,5 @@
 //! Payloads: what changed from one image to the next.
-ghost use Rattle.std.specs.Prelude.{◌≡◌, ◌+◌, ◌%◌, ◌++◌, length, IfOk, OnOk, true};
+ghost use Rattle.std.specs.Prelude.{◌≡◌, ◌≤◌, ◌+◌, ◌*◌, ◌%◌, ◌++◌, length, IfOk, OnOk, true};
 ghost use Rattle.segment_log.specs.Records.{number_bytes, zeros};
 ghost use Rattle.segment_log.specs.Edits.{applied, edit_text, filling};
 ghost use Rattle.segment_log.specs.Fingerprints.{fingerprint};
@@ -65,6 +65,7 @@ pub fn changes(alloc: Global, base: u64, old: &[u8], new: &[u8]) -> Result<Vec<u
     ensures base { IfOk result (λ payload. names_base base payload.items ≡ true) }
     ensures after { IfOk result (λ payload. names_image (fingerprint new.now) payload.items ≡ true) }
     ensures multiple { IfOk result (λ payload. (8 + length payload.items) % 4096 ≡ 0) }
+    ensures max_len { IfOk result (λ payload. length payload.items ≤ 17 * length new.now + 4144) }
 {
     let mut payload = begin_payload(alloc, new.len(), base, fingerprint(new))?;
     let mut at = 0;

@@ -1,6 +1,6 @@
 -- What is kept of a file with its log, after a commit and after a checkpoint.
-use Rattle.std.proofs.Common.{◌≡◌, ◌≢◌, ⊎_elim, inl, inr, ℕ, zero, suc, ◌<◌, ◌^◌, true, List, []}
-use Rattle.std.proofs.Common.{length, take, Result, Ok, Err, refl, sym, ◌∙◌, ap, subst}
+use Rattle.std.proofs.Common.{◌≡◌, ◌≢◌, ⊎_elim, inl, inr, ℕ, zero, suc, ◌+◌, ◌*◌, ◌<◌, ◌≤◌, ◌^◌, true}
+use Rattle.std.proofs.Common.{List, [], length, take, Result, Ok, Err, refl, sym, ◌∙◌, ap, subst, arith}
 use Rattle.segment_log.specs.Crashes.{LoggedFile}
 use Rattle.segment_log.specs.Edits.{applied, applied_all}
 use Rattle.segment_log.specs.Events.{LogEvent, leaves_after, seen_in_the_end}
@@ -11,6 +11,7 @@ use Rattle.segment_log.specs.Committing.{CommitsRecord, CrashLeaves, MakesCheckp
 use Rattle.segment_log.specs.CommittedImages.{IsCommitted, EndsCommitted, CommitsImage, PlacesCommitted}
 use Rattle.segment_log.specs.declared.committed_image.CommittedImage.{CommittedImage}
 use Rattle.segment_log.specs.declared.committing.CommitError.{CommitError}
+use Rattle.segment_log.specs.declared.committing.CommitError.TheVariants.{OutOfMemory}
 use Rattle.segment_log.proofs.theorems.Repair.{none_at_start}
 
 -- ---- calls that asked for nothing
@@ -40,11 +41,13 @@ module _ {D : Type 0} (step : D → LogEvent → D → Type 0) (old : D) (kept :
     on_error = tt;
     noop = λ is. refl;
     refused = λ is. refl;
+    too_long = λ is. absurd (cc is);
+    fault = λ is. absurd (cc is);
   }
 
   -- a commit without memory
-  pub refused : (why : CommitError) → CommitsImage step old old kept kept image (Err why)
-  refused why = record {
+  pub refused : CommitsImage step old old kept kept image (Err OutOfMemory)
+  refused = record {
     events = [];
     asked = refl;
     crash = λ files is. nothing files (IsMidCommit kept.image.items image) (mid_now files kept image is);
@@ -52,6 +55,8 @@ module _ {D : Type 0} (step : D → LogEvent → D → Type 0) (old : D) (kept :
     on_error = refl;
     noop = λ is. refl;
     refused = λ is. refl;
+    too_long = λ is. absurd (cc is);
+    fault = λ is. absurd (cc is);
   }
 
 -- ---- a commit
@@ -60,7 +65,7 @@ module _ {D : Type 0} (step : D → LogEvent → D → Type 0) (old new : D) (ke
     (image payload given first : List ℕ) (same : payload ≡ given) (from : first ≡ kept.image.items)
     (changed : kept.image.items ≢ image) (makes : applied given first ≡ image)
     (base : names_base kept.base given ≡ true) (after : names_image (fingerprint image) given ≡ true)
-    (small : length payload < 256 ^ 8) where
+    (small : length payload < 256 ^ 8) (few : length given ≤ 17 * length image + 4144) where
   payload_for : (files : LoggedFile) → IsCommitted files kept → IsPayloadFor files payload kept.image.items image
   payload_for files is = record {
     makes = (λ i. applied (same i) (sym from i)) ∙ makes;
@@ -80,6 +85,9 @@ module _ {D : Type 0} (step : D → LogEvent → D → Type 0) (old new : D) (ke
     on_error = refl;
     noop = λ is. absurd (changed is);
     refused = ⊎_elim (λ is. w.refused (inl (cc is))) (λ is. w.refused (inr (cc is)));
+    too_long = λ is. ⊎_elim (λ log. inl log)
+        (λ long. inr (omega (arith, long, ap length same, few))) (w.too_long (cc is));
+    fault = λ is. w.fault (cc is);
   }
 
   -- a commit that is done
@@ -106,6 +114,8 @@ module _ {D : Type 0} (step : D → LogEvent → D → Type 0) (old new : D) (ke
     on_error = tt;
     noop = λ is. absurd (changed is);
     refused = ⊎_elim (λ is. absurd (cc is)) (λ is. absurd (cc is));
+    too_long = λ is. absurd (cc is);
+    fault = λ is. absurd (cc is);
   }
 
 -- ---- a checkpoint
@@ -132,6 +142,7 @@ module _ {D : Type 0} (step : D → LogEvent → D → Type 0) (old : D) (kept :
     };
     unchanged = refl;
     on_error = tt;
+    cause = tt;
   }
 
 module _ {D : Type 0} (step : D → LogEvent → D → Type 0) (old new : D) (kept : CommittedImage) (some : 0 < kept.end)
@@ -150,6 +161,7 @@ module _ {D : Type 0} (step : D → LogEvent → D → Type 0) (old new : D) (ke
     on_ok = tt;
     unchanged = refl;
     on_error = refl;
+    cause = w.cause;
   }
 
   -- a checkpoint that is done
@@ -177,4 +189,5 @@ module _ {D : Type 0} (step : D → LogEvent → D → Type 0) (old new : D) (ke
         };
     unchanged = same;
     on_error = tt;
+    cause = tt;
   }

@@ -3,13 +3,13 @@ use Rattle.std.proofs.Common.{◌≡◌, ◌⊎◌, ⊎_elim, ℕ, zero, suc, �
 use Rattle.std.proofs.Common.{false, List, [], ◌∷◌}
 use Rattle.std.proofs.Common.{length, Ok, Err, refl, subst}
 use Rattle.segment_log.specs.Crashes.{LoggedFile}
-use Rattle.segment_log.specs.Events.{LogEvent, Placed, Synced, Wrote, seen_in_the_end}
+use Rattle.segment_log.specs.Events.{LogEvent, Placed, Synced, Wrote, all_done, seen_in_the_end}
 use Rattle.segment_log.specs.Laws.{CommitOutcome, Unwritten, Unsynced, Unmarked, Unsure, Committed, body, open_gate}
 use Rattle.segment_log.specs.Laws.{commit_events, through_events, shut_events, checkpoint_events}
 use Rattle.segment_log.specs.Records.{zeros}
 use Rattle.segment_log.specs.Committing.{AsksFor, CommitsRecord, ShutsGate, MakesCheckpoint, CrashLeaves}
 use Rattle.segment_log.specs.declared.committing.CommitError.{CommitError}
-use Rattle.segment_log.specs.declared.committing.CommitError.TheVariants.{TooLong, WriteFault}
+use Rattle.segment_log.specs.declared.committing.CommitError.TheVariants.{OutOfMemory, TooLong, WriteFault}
 use Rattle.segment_log.proofs.theorems.Found.{commit_finds_one, committed_finds_the_new, repair_finds_the_same}
 use Rattle.segment_log.proofs.theorems.Found.{repaired_is_ready, checkpoint_finds_the_same, checkpointed_is_ready}
 
@@ -35,11 +35,18 @@ pub behind : {D : Type 0} (step : D → LogEvent → D → Type 0) (old mid new 
 behind step old mid new at bytes events first then =
     (first.0, first.1, (first.2.0, first.2.1, subst (λ d. AsksFor step d events new) first.2.2 then))
 
+-- bytes that were not written through: a call failed
+pub halted : (at : ℕ) (bytes : List ℕ) (written synced : Bool) → false ≡ (written && synced)
+    → all_done (through_events at bytes written synced) ≡ false
+halted at bytes false synced unlike = refl
+halted at bytes true false unlike = refl
+halted at bytes true true unlike = absurd (cc unlike)
+
 module _ {D : Type 0} (step : D → LogEvent → D → Type 0) (old new : D) (end : ℕ) (payload : List ℕ) where
   -- a commit that was refused before anything was asked
   pub refused : (why : CommitError) → new ≡ old → (why ≡ TooLong → (2 ^ 40 ≤ end) ⊎ (2 ^ 40 ≤ length payload))
-      → CommitsRecord step old new end payload (Err why)
-  refused why same long = record {
+      → (why ≡ WriteFault → ⊥) → CommitsRecord step old new end payload (Err why)
+  refused why same long other = record {
     events = [];
     asked = same;
     crash = λ files last image ready for. nothing files (commit_events end payload Unwritten) _
@@ -48,6 +55,7 @@ module _ {D : Type 0} (step : D → LogEvent → D → Type 0) (old new : D) (en
     base = λ files. refl;
     refused = λ _. refl;
     too_long = λ is. long (cc is);
+    fault = λ is. absurd (other (cc is));
   }
 
   -- a commit writes the log alone
@@ -60,9 +68,10 @@ module _ {D : Type 0} (step : D → LogEvent → D → Type 0) (old new : D) (en
   same_base Committed files = refl
 
   -- a commit that failed while it wrote
-  pub failed : (how : CommitOutcome) → AsksFor step old (commit_events end payload how) new
+  pub failed : (how : CommitOutcome) → all_done (commit_events end payload how) ≡ false
+      → AsksFor step old (commit_events end payload how) new
       → CommitsRecord step old new end payload (Err WriteFault)
-  failed how asked = record {
+  failed how halts asked = record {
     events = commit_events end payload how;
     asked = asked;
     crash = λ files last image ready for k c left.
@@ -71,6 +80,7 @@ module _ {D : Type 0} (step : D → LogEvent → D → Type 0) (old new : D) (en
     base = same_base how;
     refused = ⊎_elim (λ is. absurd (cc is)) (λ is. absurd (cc is));
     too_long = λ is. absurd (cc is);
+    fault = λ is. halts;
   }
 
   -- a commit that is done
@@ -85,14 +95,15 @@ module _ {D : Type 0} (step : D → LogEvent → D → Type 0) (old new : D) (en
     base = same_base Committed;
     refused = ⊎_elim (λ is. absurd (cc is)) (λ is. absurd (cc is));
     too_long = λ is. absurd (cc is);
+    fault = λ is. absurd (cc is);
   }
 
   -- a commit whose body was not written through
   pub body_failed : (written synced : Bool) → false ≡ (written && synced)
       → AsksFor step old (through_events (end + 4096) (body payload) written synced) new
       → CommitsRecord step old new end payload (Err WriteFault)
-  body_failed false synced unlike asked = failed Unwritten asked
-  body_failed true false unlike asked = failed Unsynced asked
+  body_failed false synced unlike asked = failed Unwritten refl asked
+  body_failed true false unlike asked = failed Unsynced refl asked
   body_failed true true unlike asked = absurd (cc unlike)
 
   module _ (mid : D) (first : AsksFor step old (through_events (end + 4096) (body payload) true true) mid) where
@@ -101,10 +112,10 @@ module _ {D : Type 0} (step : D → LogEvent → D → Type 0) (old new : D) (en
         → AsksFor step mid (through_events end open_gate written synced) new
         → CommitsRecord step old new end payload (Err WriteFault)
     gate_failed false synced unlike asked =
-        failed Unmarked
+        failed Unmarked refl
         (behind step old mid new (end + 4096) (body payload) (through_events end open_gate false synced) first asked)
     gate_failed true false unlike asked =
-        failed Unsure
+        failed Unsure refl
         (behind step old mid new (end + 4096) (body payload) (through_events end open_gate true false) first asked)
     gate_failed true true unlike asked = absurd (cc unlike)
 
@@ -116,23 +127,26 @@ module _ {D : Type 0} (step : D → LogEvent → D → Type 0) (old new : D) (en
 
 module _ {D : Type 0} (step : D → LogEvent → D → Type 0) (old new : D) (end : ℕ) where
   -- an opening that asked for nothing
-  pub not_shut : (why : CommitError) → new ≡ old → ShutsGate step old new end (Err why)
-  not_shut why same = record {
+  pub not_shut : new ≡ old → ShutsGate step old new end (Err OutOfMemory)
+  not_shut same = record {
     events = [];
     asked = same;
     crash = λ files ends ajar own. nothing files (shut_events end false false) _
         (λ k c left. repair_finds_the_same files end false false ends ajar own k c left);
     on_ok = tt;
+    cause = refl;
   }
 
   -- an opening that failed while it shut the gate
-  pub half_shut : (written synced : Bool) → (why : CommitError)
-      → AsksFor step old (through_events end (zeros 4096) written synced) new → ShutsGate step old new end (Err why)
-  half_shut written synced why asked = record {
+  pub half_shut : (written synced : Bool) → false ≡ (written && synced)
+      → AsksFor step old (through_events end (zeros 4096) written synced) new
+      → ShutsGate step old new end (Err WriteFault)
+  half_shut written synced unlike asked = record {
     events = shut_events end written synced;
     asked = asked;
     crash = λ files ends ajar own k c left. repair_finds_the_same files end written synced ends ajar own k c left;
     on_ok = tt;
+    cause = halted end (zeros 4096) written synced unlike;
   }
 
   -- an opening that shut the gate
@@ -142,41 +156,44 @@ module _ {D : Type 0} (step : D → LogEvent → D → Type 0) (old new : D) (en
     asked = asked;
     crash = λ files ends ajar own k c left. repair_finds_the_same files end true true ends ajar own k c left;
     on_ok = λ files ends own. repaired_is_ready files end ends own;
+    cause = tt;
   }
 
 module _ {D : Type 0} (step : D → LogEvent → D → Type 0) (old new : D) (image : List ℕ) where
   -- a checkpoint that asked for nothing
-  pub not_begun : (why : CommitError) → new ≡ old → MakesCheckpoint step old new image (Err why)
-  not_begun why same = record {
+  pub not_begun : new ≡ old → MakesCheckpoint step old new image (Err OutOfMemory)
+  not_begun same = record {
     events = [];
     asked = same;
     crash = λ files end ready some. nothing files (checkpoint_events image false false false) _
         (λ k c left. checkpoint_finds_the_same files end image false false false ready some k c left);
     on_ok = tt;
+    cause = refl;
   }
 
   -- a checkpoint whose file has no name for good
-  pub not_placed : (why : CommitError) → step old (Placed image false) new
-      → MakesCheckpoint step old new image (Err why)
-  not_placed why asked = record {
+  pub not_placed : step old (Placed image false) new → MakesCheckpoint step old new image (Err WriteFault)
+  not_placed asked = record {
     events = checkpoint_events image false false false;
     asked = (new, asked, refl);
     crash = λ files end ready some k c left.
         checkpoint_finds_the_same files end image false false false ready some k c left;
     on_ok = tt;
+    cause = refl;
   }
 
   module _ (mid : D) (placed : step old (Placed image true) mid) where
     -- a checkpoint whose log was not emptied for good
-    pub not_emptied : (written synced : Bool) (why : CommitError)
+    pub not_emptied : (written synced : Bool) → false ≡ (written && synced)
         → AsksFor step mid (through_events 0 (zeros 4096) written synced) new
-        → MakesCheckpoint step old new image (Err why)
-    not_emptied written synced why asked = record {
+        → MakesCheckpoint step old new image (Err WriteFault)
+    not_emptied written synced unlike asked = record {
       events = checkpoint_events image true written synced;
       asked = (mid, placed, asked);
       crash = λ files end ready some k c left.
           checkpoint_finds_the_same files end image true written synced ready some k c left;
       on_ok = tt;
+      cause = halted 0 (zeros 4096) written synced unlike;
     }
 
     -- a checkpoint that is done
@@ -188,4 +205,5 @@ module _ {D : Type 0} (step : D → LogEvent → D → Type 0) (old new : D) (im
       crash = λ files end ready some k c left.
           checkpoint_finds_the_same files end image true true true ready some k c left;
       on_ok = λ files end ready some. checkpointed_is_ready files end image ready some;
+      cause = tt;
     }

@@ -272,6 +272,54 @@ tagged_more size base after payload next part tagged is = record {
       ∙ ap (λ (l : List ℕ). number_bytes size ++ l) (append_assoc (tag_text base after) tagged.more part);
 }
 
+-- ---- how long it is
+
+length-edit : (at : ℕ) (bytes : List ℕ) → length (edit_text at bytes) ≡ 16 + length bytes
+length-edit at bytes =
+    let head : List ℕ = number_bytes at ++ number_bytes (length bytes) in
+    let is : length (edit_text at bytes) ≡ length (head ++ bytes) = refl in
+    omega (
+      arith,
+      is,
+      length-append head bytes,
+      length-append (number_bytes at) (number_bytes (length bytes)),
+      length-number at,
+      length-number (length bytes),
+    )
+
+-- with no edit yet, its length and the tag
+pub few_first : (size base after : ℕ) (payload : List ℕ) → payload ≡ number_bytes size ++ tag_text base after
+    → length payload ≡ 40
+few_first size base after payload is =
+    let tag : List ℕ = number_bytes base ++ number_bytes after in
+    let tag_len : length tag ≡ 16 =
+    omega (
+      arith,
+      length-append (number_bytes base) (number_bytes after),
+      length-number base,
+      length-number after,
+    ) in
+    let same : length (tag_text base after) ≡ length (edit_text 18_446_744_073_709_551_615 tag) = refl in
+    omega (
+      arith,
+      ap length is,
+      same,
+      length-append (number_bytes size) (tag_text base after),
+      length-number size,
+      length-edit 18_446_744_073_709_551_615 tag,
+      tag_len,
+    )
+
+-- with an edit more
+pub few_more : (new payload more : List ℕ) (at end : ℕ) → at ≤ end → end ≤ length new
+    → more ≡ payload ++ edit_text at (take (end - at) (drop at new))
+    → length more ≡ length payload + 16 + (end - at)
+few_more new payload more at end le within is =
+    let bytes : List ℕ = take (end - at) (drop at new) in
+    let size : length bytes ≡ end - at =
+    length-take-le (end - at) (drop at new) (omega (arith, length-drop at new)) in
+    omega (arith, ap length is, length-append payload (edit_text at bytes), length-edit at bytes, size)
+
 module _ (size base after : ℕ) (payload : List ℕ) (tagged : IsTagged size base after payload) where
   abbrev tag : List ℕ
   tag = number_bytes base ++ number_bytes after

@@ -3,20 +3,19 @@ use Rattle.std.proofs.lemmas.Result.{err_from_is_err_and}
 use Rattle.segment_log.specs.Committing.{AsksFor}
 use Rattle.segment_log.specs.Laws.{through_events}
 use Rattle.segment_log.specs.Records.{zeros}
-use Rattle.segment_log.specs.declared.committing.CommitError.TheVariants.{OutOfMemory, WriteFault}
 use Rattle.segment_log.proofs.committing.Ended.{not_begun, not_placed, not_emptied, emptied_now, through}
 use Rattle.segment_log.proofs.committing.checkpoint.Goals as goal
 
 pub returns-in_err-gate : goal.returns-in_err-gate
 returns-in_err-gate g c =
     let p = err_from_is_err_and c.from_residual.result c.from_residual.ensures.1 in
-    rw (p.1, p.2) (not_begun g.D.LogDisk.log_step c.args.disk.now c.args.disk.now c.args.image.now OutOfMemory refl)
+    rw (p.1, p.2) (not_begun g.D.LogDisk.log_step c.args.disk.now c.args.disk.now c.args.image.now refl)
 
 pub returns-in_err-place : goal.returns-in_err-place
 returns-in_err-place g c =
     let from = c.from_residual-in_err-place in
     let p = err_from_is_err_and from.result from.ensures.1 in
-    rw (p.1, p.2) (not_placed g.D.LogDisk.log_step c.args.disk.now c.place.new.self c.args.image.now WriteFault
+    rw (p.1, p.2) (not_placed g.D.LogDisk.log_step c.args.disk.now c.place.new.self c.args.image.now
     c.in_err-place.ensures)
 
 pub returns-in_err-write_through : goal.returns-in_err-write_through
@@ -29,7 +28,7 @@ returns-in_err-write_through g c =
     let new = c.write_through.new.disk in
     let gate : c.deref.result.now ≡ zeros 4096 = c.deref.ensures.value ∙ c.in_ok-gate.ensures in
     rw (p.1, p.2) (not_emptied step c.args.disk.now new c.args.image.now mid c.in_ok-place.ensures w.written w.synced
-    WriteFault (subst (λ (b : List ℕ). AsksFor step mid (through_events 0 b w.written w.synced) new) gate w.asked))
+    w.answer (subst (λ (b : List ℕ). AsksFor step mid (through_events 0 b w.written w.synced) new) gate w.asked))
 
 pub returns : goal.returns
 returns g c =

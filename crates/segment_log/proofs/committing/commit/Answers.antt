@@ -16,19 +16,20 @@ returns-then-end-ge-MAX_LOG_LEN g c =
           inr w.if-payload-ge-MAX_LOG_LEN.true
     ] in
     refused g.D.LogDisk.log_step c.args.disk.now c.args.disk.now c.args.end c.args.payload.now TooLong refl (λ _. long)
+    (λ is. absurd (cc is))
 
 pub returns-in_err-body : goal.returns-in_err-body
 returns-in_err-body g c =
     let p = err_from_is_err_and c.from_residual.result c.from_residual.ensures.1 in
     rw (p.1, p.2) (refused g.D.LogDisk.log_step c.args.disk.now c.args.disk.now c.args.end c.args.payload.now
-    OutOfMemory refl (λ is. absurd (cc is)))
+    OutOfMemory refl (λ is. absurd (cc is)) (λ is. absurd (cc is)))
 
 pub returns-in_err-gate : goal.returns-in_err-gate
 returns-in_err-gate g c =
     let from = c.from_residual-in_err-gate in
     let p = err_from_is_err_and from.result from.ensures.1 in
     rw (p.1, p.2) (refused g.D.LogDisk.log_step c.args.disk.now c.args.disk.now c.args.end c.args.payload.now
-    OutOfMemory refl (λ is. absurd (cc is)))
+    OutOfMemory refl (λ is. absurd (cc is)) (λ is. absurd (cc is)))
 
 pub returns-in_err-write_through : goal.returns-in_err-write_through
 returns-in_err-write_through g c =

@@ -7,12 +7,16 @@ use Rattle.segment_log.specs.Records.{number_bytes, zeros}
 use Rattle.segment_log.specs.Fingerprints.{fingerprint}
 use Rattle.segment_log.specs.Tags.{tag_text}
 use Rattle.segment_log.proofs.payloads.Writing.{writes_first, writes_part, writes_same, writes_last, same_part}
-use Rattle.segment_log.proofs.payloads.Writing.{tagged_first, tagged_more, names_its_base, names_its_image}
+use Rattle.segment_log.proofs.payloads.Writing.{tagged_first, tagged_more, few_first, few_more}
+use Rattle.segment_log.proofs.payloads.Writing.{names_its_base, names_its_image}
 use Rattle.segment_log.proofs.records.Pieces.{length-zeros}
 use Rattle.segment_log.proofs.payloads.changes.Goals as goal
 
 filled_up : (n all : ℕ) → all ≡ n + filling n → (8 + all) % 4096 ≡ 0
 filled_up n all is = omega (arith, is)
+
+filled_max : (n all : ℕ) → all ≡ n + filling n → all ≤ n + 4095
+filled_max n all is = omega (arith, is)
 
 pub pages-init : goal.pages-init
 pages-init c =
@@ -28,6 +32,10 @@ pages-init c =
       tagged =
           tagged_first (length c.args.new.now) c.args.base
           (fingerprint c.args.new.now) c.in_ok-payload.payload.items begun;
+      few = omega (
+        arith,
+        few_first (length c.args.new.now) c.args.base (fingerprint c.args.new.now) c.in_ok-payload.payload.items begun,
+      );
     }
 
 pub pages-preserved-in_ok-push_edit : goal.pages-preserved-in_ok-push_edit
@@ -43,6 +51,14 @@ pages-preserved-in_ok-push_edit c =
           tagged_more (length c.args.new.now) c.args.base
           (fingerprint c.args.new.now) c.pages.payload.items c.push_edit.new.payload.items _ c.pages.invariant.tagged
           c.in_ok-push_edit.ensures;
+      few = omega (
+        arith,
+        c.min.ensures,
+        c.pages.invariant.few,
+        c.pages-test.true,
+        few_more c.args.new.now c.pages.payload.items c.push_edit.new.payload.items c.pages.at
+            (c.pages.at + c.min.result) (omega arith) within c.in_ok-push_edit.ensures,
+      );
     }
 
 pub pages-preserved : goal.pages-preserved
@@ -55,6 +71,7 @@ pages-preserved c =
           (omega arith) within c.if-end-old.false
           ((bytes_eq-Decides _ _).0 (not-false _ (sym c.if-ne.ensures)))) c.pages.invariant.so_far;
       tagged = c.pages.invariant.tagged;
+      few = omega (arith, c.pages.invariant.few);
     }
 
 pub returns : goal.returns
@@ -77,4 +94,10 @@ returns c =
       base = names_its_base n c.args.base mark filled tagged (omega arith);
       after = names_its_image n c.args.base mark filled tagged known;
       multiple = filled_up (length payload) (length filled) len;
+      max_len = omega (
+        arith,
+        filled_max (length payload) (length filled) len,
+        c.pages.invariant.few,
+        c.pages.invariant.within,
+      );
     }

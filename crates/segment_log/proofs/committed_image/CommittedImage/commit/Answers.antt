@@ -1,7 +1,6 @@
 use Rattle.std.proofs.Common.{◌≢◌, ◌<◌, ◌^◌, length, refl, sym, ◌∙◌, arith}
 use Rattle.std.proofs.lemmas.Result.{err_from_is_err_and}
 use Rattle.std.proofs.lemmas.Slice.Eq.{bytes_eq-Decides}
-use Rattle.segment_log.specs.declared.committing.CommitError.TheVariants.{OutOfMemory}
 use Rattle.segment_log.proofs.committed_image.Kept.{unchanged, refused, failed, done}
 use Rattle.segment_log.proofs.committed_image.CommittedImage.commit.Goals as goal
 
@@ -13,13 +12,13 @@ returns-then-eq g c =
 pub returns-in_err-payload : goal.returns-in_err-payload
 returns-in_err-payload g c =
     let p = err_from_is_err_and c.from_residual.result c.from_residual.ensures.1 in
-    rw (p.1, p.2) (refused g.D.LogDisk.log_step c.args.disk.now c.args.self.now c.args.image.now OutOfMemory)
+    rw (p.1, p.2) (refused g.D.LogDisk.log_step c.args.disk.now c.args.self.now c.args.image.now)
 
 pub returns-in_err-kept : goal.returns-in_err-kept
 returns-in_err-kept g c =
     let from = c.from_residual-in_err-kept in
     let p = err_from_is_err_and from.result from.ensures.1 in
-    rw (p.1, p.2) (refused g.D.LogDisk.log_step c.args.disk.now c.args.self.now c.args.image.now OutOfMemory)
+    rw (p.1, p.2) (refused g.D.LogDisk.log_step c.args.disk.now c.args.self.now c.args.image.now)
 
 pub returns-in_err-self : goal.returns-in_err-self
 returns-in_err-self g c =
@@ -32,7 +31,7 @@ returns-in_err-self g c =
     rw (p.1, p.2) (failed g.D.LogDisk.log_step c.args.disk.now c.commit.new.disk c.args.self.now c.args.image.now
     c.deref-2.result.now c.in_ok-payload.payload.items c.deref.result.now c.deref-2.ensures.value
     c.deref.ensures.value changed c.in_ok-payload.ensures.changes c.in_ok-payload.ensures.base
-    c.in_ok-payload.ensures.after small _ c.in_err-self.ensures)
+    c.in_ok-payload.ensures.after small c.in_ok-payload.ensures.max_len _ c.in_err-self.ensures)
 
 pub returns : goal.returns
 returns g c =
@@ -43,4 +42,5 @@ returns g c =
     done g.D.LogDisk.log_step c.args.disk.now c.commit.new.disk c.args.self.now c.args.image.now
     c.deref-2.result.now c.in_ok-payload.payload.items c.deref.result.now c.deref-2.ensures.value
     c.deref.ensures.value changed c.in_ok-payload.ensures.changes c.in_ok-payload.ensures.base
-    c.in_ok-payload.ensures.after small _ c.in_ok-self.ensures _ c.in_ok-kept.ensures refl refl
+    c.in_ok-payload.ensures.after small c.in_ok-payload.ensures.max_len _ c.in_ok-self.ensures _
+    c.in_ok-kept.ensures refl refl

@@ -1,6 +1,7 @@
 use Rattle.segment_c.proofs.maps.next.Goals as goal
 use Rattle.std.proofs.Common.{Ok, Option, ap, subst, sym, ◌∙◌}
-use Rattle.seg_types.specs.{declared.kinds.Kind.Kind, Keys.key_seen, Written.literal_seen, Values.value_of_scalar}
+use Rattle.seg_types.specs.{declared.kinds.Kind.Kind, Keys.key_seen, Written.literal_seen, Values.kind_of_scalar}
+use Rattle.seg_types.specs.Values.{value_of_scalar}
 use Rattle.seg_types.specs.declared.kinds.Kind.TheVariants.{Map}
 use Rattle.segment_manager.specs.{Calls.kind_at, State.AnswersWith, containers.Maps.pair_above}
 use Rattle.segment_manager.specs.containers.Walks.{KindedPair, item_seen, pairs_at}
@@ -33,12 +34,13 @@ pub returns-in-Ok-value_of-clause-read : goal.returns-in-Ok-value_of-clause-read
 returns-in-Ok-value_of-clause-read c = λ d st.
     let key = key_seen c.args.key.now in
     let tells = TellsPair c.pair_out.new.at c.pair_out.new.value c.pair_out.result in
+    let k = kind_of_scalar c.in-Ok-value_of.below in
     let z = value_of_scalar c.in-Ok-value_of.below in
     told-map c.args.segment.now key tells
     (λ d. next_in (pairs_at d key) (literal_seen c.args.after)) c.in-Ok.keys c.in-Ok.values
     c.in-Ok.ensures.kinds d st (subst tells (ap (above_in (pairs_at d key) c.in-Ok.keys c.in-Ok.values)
     (sym c.in-Ok-value_of.ensures.1)) (subst (λ (p : Option KindedPair). tells (Ok p)) (c.next_pair.ensures.answers d st
-    ∙ ap (λ ps. item_in _ c.in-Ok.values (pair_above z ps))
+    ∙ ap (λ ps. item_in k c.in-Ok.values (pair_above z ps))
     (all-pairs c.args.segment.now key c.in-Ok.object c.in-Ok.ensures.map.0 d st)
     ∙ ap (λ j. item_in j c.in-Ok.values (pair_above z (pairs_at d key))) c.in-Ok-value_of.ensures.0)
     c.pair_out.ensures.read))

@@ -3,7 +3,7 @@
 /// Repeats a piece of code for a map key of each type and each kind of values: for a `bool` and `bool`, `Bool`, and so
 /// on.
 ///
-/// Example: `by_pair!(at, values, found)`, where `found!` takes the map key, a type and a name.
+/// `by_pair!(at, values, found)` calls the macro `found!` with the map key, a type and a name.
 macro_rules! by_pair {
     ($at:ident, $values:expr, $work:ident) => {
         seg_types::by_value!($at, $at => match $values {

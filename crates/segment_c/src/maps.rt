@@ -332,7 +332,11 @@ fn first(segment: &Segment, key: &Key, at: &mut CScalar, value: &mut CScalar) ->
     ensures unchanged_on_error { 1 ≤ result → (at.new ≡ at.old) × (value.new ≡ value.old) }
 {
     match map_of(segment, key) {
-        Ok((object, keys, values)) => pair_out(first_pair(segment, object, keys, values), at, value),
+        Ok((object, keys, values)) => pair_out(
+            first_pair(segment, object, keys, values),
+            at,
+            value,
+        ),
         Err(why) => code_of(why),
     }
 }

@@ -84,7 +84,7 @@ map_kinds_at d key = elim (kind_at d key) as (λ _. Result (ScalarKind × Scalar
   | Ok kind ↦ map_kinds kind
 ]
 
--- what is said of a map of two kinds, or the error
+-- the result for a map of two kinds, or the error
 abbrev pub by_kinds : {A : Type 0} → (ScalarKind → ScalarKind → Result A Refusal)
     → Result (ScalarKind × ScalarKind) Refusal → Result A Refusal
 by_kinds say (Ok (k, v)) = say k v

@@ -106,8 +106,8 @@ pub extern "C" fn zx_push(
 }
 
 /// Puts a number after the last element of the vector of a handle, which can be any number, as `zx_push` does. It packs
-/// no key and no value. It is not inlined, and what it calls within the capacity is: only one function makes those
-/// calls.
+/// no key and no value. The push within the capacity is inlined here, and this function nowhere, so the code of that
+/// push stands once.
 #[inline(never)]
 #[unsafe(no_mangle)]
 pub extern "C" fn zx_push_i64(alloc: Global, h: &mut SegmentSlot, handle: u64, number: i64) -> u32

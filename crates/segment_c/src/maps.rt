@@ -29,8 +29,8 @@ use std::alloc::Global;
 /// The kind of maps from `i64` to `i64`.
 const NUMBERS: Kind = Kind::Map(ScalarKind::I64, ScalarKind::I64);
 
-/// The segment of a handle, and its map from `i64` to `i64` with the handle of an object that is remembered. Without
-/// that the segment goes back, and the call takes the general way.
+/// Takes the segment out of a handle, and finds its map from `i64` to `i64` by a remembered handle. Without such a map
+/// it puts the segment back, and calls the general function.
 macro_rules! numbers_or {
     ($alloc:ident, $h:ident, $handle:ident, $general:expr) => {{
         let segment = passed!(take($alloc, $h));
@@ -44,7 +44,7 @@ macro_rules! numbers_or {
     }};
 }
 
-/// Returns the map from `i64` to `i64` of a handle, if that is remembered.
+/// Returns the map of a handle, if the handle is remembered and the map is from `i64` to `i64`.
 #[inline(always)]
 fn numbers_of(segment: &Segment, handle: Handle) -> Option<Object>
     ensures { IfSome result (λ o. IsLocated segment.now (ByHandle handle) o × (o.kind ≡ MapOf I64 I64)) }

@@ -73,15 +73,15 @@ module _ (s : SegmentState) (key : Key) where
       | Some q ↦ if same_kind (Map k v) (kind_of q.value) then pairs_of q.value else []
     ]) (sym (same-object s key o l d st))
 
-  -- what is told of a map by its kinds
+  -- results that depend on the kinds of a key's map
   module _ {A : Type 0} (P : Result A Refusal → Type 0)
       (say : Directory → ScalarKind → ScalarKind → Result A Refusal) where
-    -- it has no kinds
+    -- the key has no map
     pub told-refused : (why : Refusal) → AnswersWith s (λ d. map_kinds_at d key) (Err why) → P (Err why)
         → (d : Directory) → DenotesCurrent s.cut.bytes d → P (by_kinds (say d) (map_kinds_at d key))
     told-refused why a p d st = subst P (ap (by_kinds (say d)) (a.answers d st)) p
 
-    -- it has these
+    -- the key's map has these kinds
     pub told-map : (k v : ScalarKind) → AnswersWith s (λ d. map_kinds_at d key) (Ok (k, v)) → (d : Directory)
         → DenotesCurrent s.cut.bytes d → P (say d k v) → P (by_kinds (say d) (map_kinds_at d key))
     told-map k v a d st p = subst P (ap (by_kinds (say d)) (a.answers d st)) p

@@ -30,7 +30,7 @@ use Rattle.segment_views.proofs.ranges.Bounds.{above-past, all-past, from-past, 
 
 -- ---- plain lists
 
--- the first of nodes is the node of the first pair, and the others are those of the others
+-- the first node belongs to the first pair, and each further node to the next pair
 pub record FirstAhead (node : ℕ) (rest : List ℕ) (qs : List NumberPair) : Type 0 where
   pub pair : NumberPair
   pub others : List NumberPair

@@ -1,4 +1,4 @@
--- The nodes that the map lists are those of the first pairs from the bound on.
+-- The map lists the nodes of its first pairs from the bound on.
 use Rattle.std.proofs.Common.{◌≡◌, ℕ, ◌≤◌, List, length, take, arith}
 use Rattle.std.proofs.lemmas.List.{length-take}
 use Rattle.std.specs.Range.Bound.{bound_map}

@@ -4,8 +4,7 @@ pub mod Laws
 pub use Common.*
 pub use pairs.NodeBlocks.*
 pub use pairs.Lookup.*
-pub use pairs.Listing.{at_place, AtPlace, listed_nodes, listing_steps, lists_nodes, pairs_all_read, pairs_next}
-pub use pairs.Listing.{reads_node, room_at_node}
+pub use pairs.Listing.{listing_steps, lists_nodes, reads_node, room_at_node}
 pub use pairs.Frame.*
 pub use pairs.Lists.*
 pub use pairs.Erase.*

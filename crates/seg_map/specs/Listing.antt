@@ -1,35 +1,16 @@
--- The pairs of a map that are read one after another.
-use Rattle.std.specs.Prelude.{◌≡◌, ℕ, ◌+◌, ◌*◌, ◌≤◌, Bool, not, Option, List, ◌++◌, length, take, drop, filter, map}
+-- The nodes of a map that are listed, and the pairs that are read at them.
+use Rattle.std.specs.Prelude.{◌≡◌, ℕ, ◌+◌, ◌*◌, ◌≤◌, Bool, not, Option, List, ◌++◌, length, take, drop, filter}
 use Rattle.std.specs.Prelude.{min, Some, true}
 use Rattle.std.specs.List.{AllByRecursion}
-use Rattle.raw_region.specs.Memory.{WindowState}
 use Rattle.link_tree.specs.{Nodes.is_in, Tree.bits}
 use Rattle.best_fit.specs.declared.places.Place.{Place}
 use Rattle.seg_types.specs.declared.plain.Plain.{Ghosts as Plain}
 use Rattle.seg_map.specs.Map.{Pair}
 use Rattle.seg_map.specs.Places.{HoldsMap, is_passed, item_of, nodes_of_pairs, pair_node}
-use Rattle.seg_map.specs.Searches.{IsRead}
 
 -- the pairs whose keys are not below the key, or above it if `past` is true
 abbrev pub pairs_past : {K V : Type 0} → (K → K → Bool) → Bool → K → List (Pair K V) → List (Pair K V)
 pairs_past less past key ps = filter (λ p. not (is_passed less past key p)) ps
-
--- the list with these pairs in its first places
-abbrev pub with_pairs : {K V : Type 0} → List (Pair K V) → List (K × V) → List (K × V)
-with_pairs qs list = map item_of qs ++ drop (length qs) list
-
--- the list has the first pairs from a key on, or above it if `past` is true, as many as `places` and the map have
-abbrev pub ReadsPairs : {K V : Type 0} → Plain K → Plain V → List ℕ → Place → Bool → K → ℕ → List (K × V)
-    → List (K × V) → ℕ → Type 0
-ReadsPairs {K} {V} k v b at past key places list list' count =
-    (ps : List (Pair K V)) → HoldsMap k v b at.handle at.at ps
-    → (count ≡ min places (length (pairs_past k.order past key ps)))
-    × (list' ≡ with_pairs (take count (pairs_past k.order past key ps)) list)
-
--- the nodes of these pairs, which can be read there
-abbrev pub AreNodesOf : {K V : Type 0} → Plain K → Plain V → WindowState → List ℕ → List (Pair K V) → Type 0
-AreNodesOf {K} k v c nodes qs = (keys : ℕ → Option K) × (nodes ≡ nodes_of_pairs qs) × AllByRecursion (IsRead k v c keys)
-    qs
 
 -- the list with the nodes of these pairs in its first places
 abbrev pub with_nodes : {K V : Type 0} → List (Pair K V) → List ℕ → List ℕ

@@ -1,7 +1,7 @@
 //! Lists the nodes of a map's pairs, and reads the pairs at nodes.
-ghost use Rattle.std.specs.Prelude.{◌≡◌, ◌+◌, ◌≤◌, List, length, min};
-ghost use Rattle.seg_map.specs.Listing.{AreNodesOf, HasNode, ListingSteps, ListsNodes, ReadsNode, ReadsPairs};
-ghost use Rattle.seg_map.specs.{Listing.with_pairs, Map.Pair, Places.IsSomeMap};
+ghost use Rattle.std.specs.Prelude.{◌≤◌, length};
+ghost use Rattle.seg_map.specs.Listing.{HasNode, ListingSteps, ListsNodes, ReadsNode};
+ghost use Rattle.seg_map.specs.{Places.IsSomeMap};
 
 use crate::maps::SegMap;
 use crate::reading::{KeyProbe, pair_at};
@@ -9,9 +9,6 @@ use best_fit::Heap;
 use link_tree::list_nodes_from;
 use raw_region::Steps;
 use seg_types::Plain;
-
-/// The most pairs that one call reads.
-const MOST: usize = 32;
 
 impl<K: Plain, V: Plain> SegMap<K, V> {
     /// Lists the nodes of the pairs whose keys are not below `from`, or above it if `past` is set, by rising keys, in
@@ -43,46 +40,5 @@ impl<K: Plain, V: Plain> SegMap<K, V> {
         ensures { ReadsNode K.Plain V.Plain heap.now.bytes self.place node result }
     {
         pair_at(heap, node)
-    }
-
-    /// Reads the pairs whose keys are not below `from`, or above it if `past` is set, by rising keys, into the first
-    /// places of the list: as many as it has places for, and at most 32. Returns how many they are; the other places
-    /// keep what they have.
-    pub fn read_from(
-        self,
-        heap: &Heap,
-        from: K,
-        past: bool,
-        list: &mut [(K, V)],
-        steps: &mut Steps,
-    ) -> usize
-        requires { IsSomeMap K.Plain V.Plain heap.now.bytes self.place.handle self.place.at }
-        ensures list { ReadsPairs K.Plain V.Plain heap.now.bytes self.place past from (min (length list.old) 32)
-            list.old list.new result }
-        ensures steps_lower { steps.old ≤ steps.new }
-        ensures steps { ListingSteps K.Plain V.Plain heap.now.bytes self.place (result + result) steps.old steps.new }
-    {
-        let mut nodes = [0; MOST];
-        let places = list.len().min(MOST);
-        let nodes = &mut nodes[..places];
-        let count = self.nodes_from(heap, from, past, nodes, steps);
-        steps.add(count as u64);
-        read_nodes(heap, &nodes[..count], list);
-        count
-    }
-}
-
-/// Reads the pairs of these nodes into the first places of the list.
-fn read_nodes<K: Plain, V: Plain>(heap: &Heap, nodes: &[u64], list: &mut [(K, V)])
-    requires places { length nodes.now ≤ length list.old }
-    requires nodes { (qs : List (Pair K V)) × AreNodesOf K.Plain V.Plain heap.now nodes.now qs }
-    ensures list { (qs : List (Pair K V)) → AreNodesOf K.Plain V.Plain heap.now nodes.now qs
-        → list.new ≡ with_pairs qs list.old }
-{
-    'nodes: for i in 0..nodes.len() {
-        let Some(pair) = pair_at(heap, nodes[i]) else {
-            unreachable!();
-        };
-        list[i] = pair;
     }
 }

@@ -1,24 +1,21 @@
--- The pairs of a map that are read one after another.
-use Rattle.seg_map.proofs.Common.{◌≡◌, refl, sym, ap, ◌∙◌, ℕ, suc, ◌+◌, ◌*◌, ◌<◌, ◌≤◌, Bool, List, [], ◌∷◌, length}
+-- The nodes of a map that are listed, and the pairs that are read at them.
+use Rattle.seg_map.proofs.Common.{◌≡◌, refl, sym, ap, ◌∙◌, ℕ, suc, ◌+◌, ◌*◌, ◌≤◌, Bool, List, [], ◌∷◌, length}
 use Rattle.seg_map.proofs.Common.{map}
 use Rattle.seg_map.proofs.Common.{arith, not, inl, inr, cases_Bool, Option, AllByRecursion, WindowState}
 use Rattle.seg_map.proofs.Common.{IsSearchTree, Tree, bits, nodes_of, keys_in, Pair, comes_before, pair_cells}
 use Rattle.seg_map.proofs.Common.{stands, stands_before, HoldsMap, is_passed, pair_node, Plain, nodes_of_pairs}
 use Rattle.seg_map.proofs.Common.{length-map}
 use Rattle.seg_map.proofs.pairs.Lists.{each}
-use Rattle.std.proofs.Common.{zero, ◌++◌, take, drop, set, get_or, min, append_assoc, length-take, take_all}
-use Rattle.raw_region.proofs.Facts.{AllByRecursion-filter}
+use Rattle.std.proofs.Common.{zero, ◌++◌, take, drop, min, length-take}
 use Rattle.std.specs.List.{filter}
-use Rattle.std.proofs.lemmas.List.{map-append, set_at, take-map}
-use Rattle.std.proofs.Math.Seq.{take-append_seam}
+use Rattle.std.proofs.lemmas.List.{take-map}
 use Rattle.seg_map.proofs.Common.{IsTrue, bytes_of, has_room, link_at, live_of, subst}
 use Rattle.seg_map.proofs.pairs.SearchTree.{Laws}
 use Rattle.seg_map.proofs.pairs.{Frame.at_node, Lookup.opened}
 use Rattle.seg_map.specs.Searches.{OpensPairTree, IsRead, item_at}
-use Rattle.seg_map.specs.Listing.{AreNodesOf, HasNode, ListingSteps, ListsNodes, ReadsNode, pairs_past, with_pairs}
+use Rattle.seg_map.specs.Listing.{HasNode, ListingSteps, ListsNodes, ReadsNode, pairs_past}
 use Rattle.link_tree.specs.Listing.{filled, nodes_from}
 use Rattle.best_fit.specs.declared.places.Place.{Place}
-use Rattle.seg_map.specs.Places.{item_of}
 
 -- ---- plain lists
 
@@ -33,11 +30,6 @@ filter_mapped f test test' (x ∷ xs) a =
       | inr e ↦ rw (a.0 ∙ e, e) rest
     ]
 
-all_take : {A : Type 0} (P : A → Type 0) (n : ℕ) (xs : List A) → AllByRecursion P xs → AllByRecursion P (take n xs)
-all_take P zero xs a = tt
-all_take P (suc n) [] a = tt
-all_take P (suc n) (x ∷ xs) a = (a.0, all_take P n xs a.1)
-
 -- a list that is filled, by the number of places that are
 filled_first : (list ns : List ℕ) (count : ℕ) → count ≡ min (length list) (length ns)
     → filled list ns ≡ take count ns ++ drop count list
@@ -48,58 +40,6 @@ filled_first (x ∷ list) (n ∷ ns) zero e = absurd (omega arith)
 filled_first [] ns (suc count) e = absurd (omega arith)
 filled_first (x ∷ list) [] (suc count) e = absurd (omega arith)
 filled_first (x ∷ list) (n ∷ ns) (suc count) e = ap (λ ms. n ∷ ms) (filled_first list ns count (omega arith))
-
-split_drop : {A : Type 0} (ys : List A) (n : ℕ) → n < length ys → (y : A) × (drop n ys ≡ y ∷ drop (suc n) ys)
-split_drop [] n l = absurd (omega arith)
-split_drop (y ∷ ys) zero l = (y, refl)
-split_drop (y ∷ ys) (suc n) l = split_drop ys n (omega arith)
-
-set_behind : {A : Type 0} (xs ys : List A) (n : ℕ) (x : A) → length xs ≡ n → n < length ys
-    → set (xs ++ drop n ys) n x ≡ (xs ++ x ∷ []) ++ drop (suc n) ys
-set_behind xs ys n x e l =
-    let d = split_drop ys n l in
-    ap (λ zs. set (xs ++ zs) n x) d.1 ∙ set_at xs d.0 (drop (suc n) ys) x n e
-    ∙ sym (append_assoc xs (x ∷ []) (drop (suc n) ys))
-
--- ---- reading at nodes
-
-module _ {K V : Type 0} (k : Plain K) (v : Plain V) (c : WindowState) (keys : ℕ → Option K) where
-  -- the pair whose node stands at this place of the list
-  pub record AtPlace (qs : List (Pair K V)) (i node : ℕ) : Type 0 where
-    pub pair : Pair K V
-    pub read : IsRead k v c keys pair
-    pub at : node ≡ pair_node pair
-    pub next : take (suc i) qs ≡ take i qs ++ pair ∷ []
-
-  pub at_place : (qs : List (Pair K V)) (i node : ℕ) → AllByRecursion (IsRead k v c keys) qs
-      → i < length (nodes_of_pairs qs) → node ≡ get_or (nodes_of_pairs qs) i 0 → AtPlace qs i node
-  at_place [] i node a less is = absurd (omega arith)
-  at_place (q ∷ qs) zero node a less is = record { pair = q; read = a.0; at = is; next = refl }
-  at_place (q ∷ qs) (suc i) node a less is =
-      let rest = at_place qs i node a.1 (omega arith) is in
-      record { pair = rest.pair; read = rest.read; at = rest.at; next = ap (λ ps. q ∷ ps) rest.next }
-
--- one pair more is read
-pub pairs_next : {K V : Type 0} (qs : List (Pair K V)) (p : Pair K V) (row0 list : List (K × V)) (i : ℕ) (x : K × V)
-    → i < length qs → i < length row0 → list ≡ with_pairs (take i qs) row0 → take (suc i) qs ≡ take i qs ++ p ∷ []
-    → x ≡ item_of p → set list i x ≡ with_pairs (take (suc i) qs) row0
-pairs_next {K} {V} qs p row0 list i x less less0 is next item =
-    let long : length (take i qs) ≡ i = omega (arith, length-take i qs) in
-    let long2 : length (take (suc i) qs) ≡ suc i = omega (arith, length-take (suc i) qs) in
-    let done : List (K × V) = map item_of (take i qs) in
-    let longer : length done ≡ i = length-map (take i qs) item_of ∙ long in
-    ap (λ zs. set zs i x) (is ∙ ap (λ n. done ++ drop n row0) long)
-    ∙ set_behind done row0 i x longer less0
-    ∙ ap (λ y. (done ++ y ∷ []) ++ drop (suc i) row0) item
-    ∙ ap (λ zs. zs ++ drop (suc i) row0) (sym (ap (map item_of) next ∙ map-append item_of (take i qs) (p ∷ [])))
-    ∙ ap (λ n. map item_of (take (suc i) qs) ++ drop n row0) (sym long2)
-
--- all pairs are read
-pub pairs_all_read : {K V : Type 0} (qs : List (Pair K V)) (nodes : List ℕ) (row0 list : List (K × V)) (i : ℕ)
-    → nodes ≡ nodes_of_pairs qs → length nodes ≤ i → list ≡ with_pairs (take i qs) row0 → list ≡ with_pairs qs row0
-pairs_all_read qs nodes row0 list i are all is =
-    let size : length nodes ≡ length qs = ap length are ∙ length-map qs pair_node in
-    is ∙ ap (λ ps. with_pairs ps row0) (take_all i qs (omega arith))
 
 -- ---- the nodes of a map from a key on
 
@@ -163,24 +103,6 @@ module _ {K V : Type 0} {k : Plain K} {v : Plain V} (kl : Laws k) (vl : Laws v) 
   reads_node node result e ps s =
       let r = map_read ps s in
       each ps r.1 (λ p q is. e ∙ ap (item_at k v (bytes_of c.bytes)) (sym is) ∙ q.item)
-
-  -- the nodes that are listed are nodes of pairs that can be read
-  pub listed_nodes : (past : Bool) (key : K) (list list' : List ℕ) (count : ℕ)
-      → ListsNodes k v c.bytes at past key list list' count → (ps : List (Pair K V))
-      → HoldsMap k v c.bytes at.handle at.at ps
-      → AreNodesOf k v c (take count list') (take count (pairs_past k.order past key ps))
-  listed_nodes past key list list' count lists ps s =
-      let r = map_read ps s in
-      let l = lists ps s in
-      let qs = pairs_past k.order past key ps in
-      let ns = nodes_of_pairs (take count qs) in
-      let long : length ns ≡ count = omega (arith, l.0, length-map (take count qs) pair_node, length-take count qs) in (
-        r.0,
-        ap (take count) l.1 ∙ ap (λ n. take n (ns ++ drop (length (take count qs)) list)) (sym long)
-            ∙ take-append_seam ns (drop (length (take count qs)) list),
-        all_take (IsRead k v c r.0) count qs
-            (AllByRecursion-filter (IsRead k v c r.0) (λ p. not (is_passed k.order past key p)) ps r.1),
-      )
 
 -- the steps of a listing, by the number of pairs
 pub listing_steps : {K V : Type 0} {k : Plain K} {v : Plain V} {now c : WindowState} {at : Place} {own : List ℕ}

@@ -15,8 +15,8 @@ pub use Rattle.link_tree.proofs.inserting.Insertion.{rises_put}
 pub use Rattle.link_tree.proofs.removing.Removal.{without_none}
 -- how high a red-black tree of n nodes can be
 pub use Rattle.link_tree.proofs.trees.Heights.{bits_most, bounds_height}
--- the point at which a change begins depends only on the nodes of the tree
-pub use Rattle.link_tree.proofs.searching.ChangePoints.{entry_same, exit_same}
+-- the point at which an insertion begins depends only on the nodes of the tree
+pub use Rattle.link_tree.proofs.searching.ChangePoints.{entry_same}
 
 -- an ordered tree of nodes of a list has no more nodes than the list
 pub tree_limit : (lt : ℕ → ℕ → Bool) → ((a b c : ℕ) → lt a b ≡ true → lt b c ≡ true → lt a c ≡ true)

@@ -38,7 +38,6 @@ EndsPath good cells before t last =
 -- the state of a search after one more node of its path
 abbrev pub passed : Passed → ℕ → Bool → Bool → Passed
 passed folded n red before = record {
-  node = if before then folded.node else Some n;
   above = if red then None else Some n;
   entry = if red then folded.entry else option_or folded.above folded.entry;
 }

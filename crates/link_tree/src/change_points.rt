@@ -2,7 +2,6 @@
 
 ghost use Rattle.std.specs.Prelude.{◌≡◌, ℕ, ◌+◌, ◌*◌, ◌≤◌, Bool, true, false, Option, Some, None, List, length, IfSome};
 ghost use Rattle.std.specs.Prelude.{if◌then◌else◌};
-ghost use Rattle.std.specs.Option.{option_or};
 ghost use Rattle.link_tree.specs.Tree.{Tree, IsSearchTree, nodes_of, bits};
 ghost use Rattle.link_tree.specs.Nodes.{leads, first_not_before};
 ghost use Rattle.link_tree.specs.Searching.{path_length};
@@ -12,11 +11,9 @@ use crate::cursor::NodeCursor;
 use crate::descending::{PathFold, descend};
 use crate::nodes::Nodes;
 
-/// The result of `find_insert_point`: the node found, and where an insertion at the probe's place begins.
+/// The result of `find_entry`: where an insertion begins.
 #[derive(Clone, Copy, Debug, PartialEq, Eq)]
-pub struct InsertPoint {
-    /// The first node that does not precede the probe; none if every node precedes it.
-    pub node: Option<u64>,
+pub struct EntryPoint {
     /// The node at which `insert_at` begins for a new node at the end of the path; none if it begins at the root.
     pub entry: Option<u64>,
     /// The number of nodes visited.
@@ -26,41 +23,25 @@ pub struct InsertPoint {
 /// Where an insertion begins, as far as the search has come.
 #[derive(Clone, Copy)]
 struct Passed {
-    /// The last node on the path that does not precede the probe.
-    node: Option<u64>,
     /// The last node on the path, if it is black.
     above: Option<u64>,
     /// The lowest black node above `above` that has no red node after it on the path.
     entry: Option<u64>,
 }
 
-impl Passed {
-    /// Returns where the insertion begins if the path ends here.
-    fn end(self) -> Option<u64>
-        ensures { result ≡ option_or self.above self.entry }
-    {
-        match self.above {
-            Some(node) => Some(node),
-            None => self.entry,
-        }
-    }
-}
-
 impl PathFold for Passed {
     ghost passed = { passed };
 
-    fn fold_node<N: Nodes>(self, visits: &mut NodeCursor<N>, node: u64, before: bool) -> Passed {
+    fn fold_node<N: Nodes>(self, visits: &mut NodeCursor<N>, node: u64, _before: bool) -> Passed {
         if visits.red(node) {
             return Passed {
-                node: if before { self.node } else { Some(node) },
                 above: None,
                 entry: self.entry,
             };
         }
         Passed {
-            node: if before { self.node } else { Some(node) },
             above: Some(node),
-            entry: self.end(),
+            entry: self.above.or(self.entry),
         }
     }
 }
@@ -94,15 +75,6 @@ impl PathFold for Reached {
             last: Some(node),
         }
     }
-}
-
-/// The result of `find_entry`: where an insertion begins.
-#[derive(Clone, Copy, Debug, PartialEq, Eq)]
-pub struct EntryPoint {
-    /// The node at which `insert_at` begins; none if it begins at the root.
-    pub entry: Option<u64>,
-    /// The number of nodes visited.
-    pub steps: u64,
 }
 
 /// The result of `find_remove_point`: the node found, and where its removal begins.
@@ -144,15 +116,12 @@ impl PathFold for Followed {
     }
 }
 
-/// Finds the first node that does not precede the probe, and where the insertion of a node at the probe's place begins.
+/// Finds where the insertion of a node at the probe's place begins.
 ///
 /// It takes the path and the number of steps of `find_first_not_before`, and also reads the colours on the path.
-pub fn find_insert_point<N: Nodes>(nodes: &N, root: Option<u64>, probe: &N::Probe) -> InsertPoint
+pub fn find_insert_point<N: Nodes>(nodes: &N, root: Option<u64>, probe: &N::Probe) -> EntryPoint
     requires root { leads (N.is_node nodes.now) root ≡ true }
     requires tree { (t : Tree) × IsSearchTree (N.order nodes.now) (N.cells nodes.now) root t }
-    // None if every node precedes the probe.
-    ensures first { (t : Tree) → IsSearchTree (N.order nodes.now) (N.cells nodes.now) root t
-        → result.node ≡ first_not_before (N.before nodes.now probe.now) (nodes_of t) }
     // The lowest black node on the path that has no red node after it there.
     ensures entry { (t : Tree) → IsSearchTree (N.order nodes.now) (N.cells nodes.now) root t
         → result.entry ≡ insert_point_of (N.before nodes.now probe.now) t }
@@ -162,14 +131,12 @@ pub fn find_insert_point<N: Nodes>(nodes: &N, root: Option<u64>, probe: &N::Prob
         → result.steps ≡ path_length (N.before nodes.now probe.now) t }
 {
     let start = Passed {
-        node: None,
         above: None,
         entry: None,
     };
     let way = descend(nodes, root, probe, start);
-    InsertPoint {
-        node: way.folded.node,
-        entry: way.folded.end(),
+    EntryPoint {
+        entry: way.folded.above.or(way.folded.entry),
         steps: way.steps,
     }
 }

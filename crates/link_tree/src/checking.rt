@@ -4,7 +4,7 @@ ghost use Rattle.std.specs.Prelude.{◌≡◌, ◌↔◌, ℕ, ◌+◌, ◌*◌,
 ghost use Rattle.std.specs.Prelude.{length, IfSome, is_some, ◌⊎◌, if◌then◌else◌};
 ghost use Rattle.link_tree.specs.Tree.{Cell, Tree, IsSearchTree, nodes_of, height, bits};
 ghost use Rattle.link_tree.specs.Nodes.{leads, is_in};
-ghost use Rattle.link_tree.specs.Between.{is_above, is_below, count_between};
+ghost use Rattle.link_tree.specs.Between.{count_between, is_between};
 ghost use Rattle.link_tree.specs.Checking.{IsLinkClosed, IsSound};
 
 use crate::cursor::NodeCursor;
@@ -29,35 +29,31 @@ struct Part {
     blacks: u64,
 }
 
-fn stands_above<N: Nodes>(visits: &mut NodeCursor<N>, low: Option<u64>, node: u64) -> bool
+/// Returns true if the node follows `low` and precedes `high`, as far as they are there.
+fn stands_between<N: Nodes>(
+    visits: &mut NodeCursor<N>,
+    low: Option<u64>,
+    node: u64,
+    high: Option<u64>,
+) -> bool
     requires min_value { leads (N.is_node visits.old.nodes.now) low ≡ true }
-    requires node { N.is_node visits.old.nodes.now node ≡ true }
-    requires no_overflow { visits.old.steps + 2 < 2 ^ 64 }
-    ensures value { result ≡ is_above (N.order visits.old.nodes.now) low node }
-    ensures nodes { visits.new.nodes.now ≡ visits.old.nodes.now }
-    ensures position { low ≡ None → visits.new.at ≡ visits.old.at }
-    ensures steps_lower { visits.old.steps ≤ visits.new.steps }
-    ensures steps_upper { visits.new.steps ≤ visits.old.steps + 2 }
-    // No node precedes itself, so the comparison visits two different nodes.
-    ensures progress_on_step { result ≡ true → is_some low ≡ true → visits.old.steps < visits.new.steps }
-{
-    match low {
-        Some(low) => visits.precedes(low, node),
-        None => true,
-    }
-}
-
-fn stands_below<N: Nodes>(visits: &mut NodeCursor<N>, node: u64, high: Option<u64>) -> bool
     requires max_value { leads (N.is_node visits.old.nodes.now) high ≡ true }
     requires node { N.is_node visits.old.nodes.now node ≡ true }
-    requires no_overflow { visits.old.steps + 2 < 2 ^ 64 }
-    ensures value { result ≡ is_below (N.order visits.old.nodes.now) node high }
+    requires no_overflow { visits.old.steps + 4 < 2 ^ 64 }
+    ensures value { result ≡ is_between (N.order visits.old.nodes.now) low node high }
     ensures nodes { visits.new.nodes.now ≡ visits.old.nodes.now }
-    ensures position { high ≡ None → visits.new.at ≡ visits.old.at }
+    ensures position { low ≡ None → high ≡ None → visits.new.at ≡ visits.old.at }
     ensures steps_lower { visits.old.steps ≤ visits.new.steps }
-    ensures steps_upper { visits.new.steps ≤ visits.old.steps + 2 }
-    ensures progress_on_step { result ≡ true → is_some high ≡ true → visits.old.steps < visits.new.steps }
+    ensures steps_upper { visits.new.steps ≤ visits.old.steps + 4 }
+    // No node precedes itself, so each comparison visits two different nodes.
+    ensures progress_on_step { result ≡ true → is_some low ≡ true ⊎ is_some high ≡ true
+        → visits.old.steps < visits.new.steps }
 {
+    if let Some(low) = low {
+        if !visits.precedes(low, node) {
+            return false;
+        }
+    }
     match high {
         Some(high) => visits.precedes(node, high),
         None => true,
@@ -113,10 +109,7 @@ fn check_below<N: Nodes>(
     if levels == 0 {
         return None;
     }
-    if !stands_above(visits, low, node) {
-        return None;
-    }
-    if !stands_below(visits, node, high) {
+    if !stands_between(visits, low, node, high) {
         return None;
     }
     let red = visits.red(node);

@@ -22,8 +22,7 @@ mod theorems;
 mod walking;
 
 pub use change_points::{
-    EntryPoint, InsertPoint, PathEnd, RemovePoint, find_entry, find_insert_point, find_path_end,
-    find_remove_point,
+    EntryPoint, PathEnd, RemovePoint, find_entry, find_path_end, find_remove_point,
 };
 pub use checking::{CheckedTree, check};
 pub use insertion::{TreeChange, insert, insert_at};

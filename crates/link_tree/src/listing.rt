@@ -1,9 +1,10 @@
 //! Lists the nodes of a tree in order, from a probe on.
 
-ghost use Rattle.std.specs.Prelude.{◌≡◌, ℕ, ◌+◌, ◌*◌, ◌<◌, ◌≤◌, ◌^◌, Bool, true, Option, Some, List, length, min};
-ghost use Rattle.link_tree.specs.Tree.{Tree, IsSearchTree, nodes_of, bits, height};
+ghost use Rattle.std.specs.Prelude.{◌≡◌, ℕ, ◌+◌, ◌*◌, ◌<◌, ◌≤◌, ◌^◌, Bool, true, false, Option, Some, List, length};
+ghost use Rattle.std.specs.Prelude.{min};
+ghost use Rattle.link_tree.specs.Tree.{Tree, IsSearchTree, nodes_of, bits};
 ghost use Rattle.link_tree.specs.Nodes.{leads};
-ghost use Rattle.link_tree.specs.Listing.{IsLowTree, IsLowSearchTree, Lists, ListsFrom, filled, nodes_from};
+ghost use Rattle.link_tree.specs.Listing.{IsLowSearchTree, Lists, filled, nodes_from};
 
 use crate::checking::MAX_HEIGHT;
 use crate::cursor::NodeCursor;
@@ -29,10 +30,13 @@ fn list_below<N: Nodes>(
 ) -> usize
     requires link { leads (N.is_node visits.old.nodes.now) link ≡ true }
     requires count { count ≤ length list.old }
-    requires tree { (t : Tree) × IsLowTree (N.cells visits.old.nodes.now) link levels t
+    requires tree { (t : Tree)
+        × IsLowSearchTree (N.order visits.old.nodes.now) (N.cells visits.old.nodes.now) link levels t
         × (visits.old.steps + length (nodes_of t) + 1 < 2 ^ 64) }
-    ensures listing { (t : Tree) → IsLowTree (N.cells visits.old.nodes.now) link levels t
-        → Lists t list.old count list.new result visits.old.steps visits.new.steps }
+    // It lists as if no node preceded a probe.
+    ensures listing { (t : Tree)
+        → IsLowSearchTree (N.order visits.old.nodes.now) (N.cells visits.old.nodes.now) link levels t
+        → Lists (λ _. false) t list.old count list.new result visits.old.steps visits.new.steps }
     ensures in_bounds { result ≤ length list.new }
     ensures nodes { visits.new.nodes.now ≡ visits.old.nodes.now }
 {
@@ -52,38 +56,36 @@ fn list_below<N: Nodes>(
     list_below(visits, right, list, listed + 1, levels - 1)
 }
 
-/// Appends the nodes behind the link that do not precede the probe, as `list_below` does. It compares only nodes of the
-/// path to the first of them.
+/// Writes the nodes behind the link that do not precede the probe to the first places of the list, down to `levels`
+/// levels. Returns how many it wrote. It compares only nodes of the path to the first of them.
 fn list_from<N: Nodes>(
     visits: &mut NodeCursor<N>,
     link: Option<u64>,
     probe: &N::Probe,
     list: &mut [u64],
-    count: usize,
     levels: u64,
 ) -> usize
     requires link { leads (N.is_node visits.old.nodes.now) link ≡ true }
-    requires count { count ≤ length list.old }
     requires tree { (t : Tree)
         × IsLowSearchTree (N.order visits.old.nodes.now) (N.cells visits.old.nodes.now) link levels t
         × (visits.old.steps + length (nodes_of t) + 1 < 2 ^ 64) }
     ensures listing { (t : Tree)
         → IsLowSearchTree (N.order visits.old.nodes.now) (N.cells visits.old.nodes.now) link levels t
-        → ListsFrom (N.before visits.old.nodes.now probe.now) t list.old count list.new result visits.old.steps
+        → Lists (N.before visits.old.nodes.now probe.now) t list.old 0 list.new result visits.old.steps
         visits.new.steps }
     ensures in_bounds { result ≤ length list.new }
     ensures nodes { visits.new.nodes.now ≡ visits.old.nodes.now }
 {
     let Some(node) = link else {
-        return count;
+        return 0;
     };
     let before = visits.before_probe(node, probe);
     let right = visits.right(node);
     if before {
-        return list_from(visits, right, probe, list, count, levels - 1);
+        return list_from(visits, right, probe, list, levels - 1);
     }
     let left = visits.left(node);
-    let listed = list_from(visits, left, probe, list, count, levels - 1);
+    let listed = list_from(visits, left, probe, list, levels - 1);
     if listed == list.len() {
         return listed;
     }
@@ -112,7 +114,7 @@ pub fn list_nodes_from<N: Nodes>(
         → result.steps ≤ result.count + 4 * bits (length (nodes_of t) + 1) }
 {
     let mut visits = NodeCursor::new(nodes);
-    let count = list_from(&mut visits, root, probe, list, 0, MAX_HEIGHT);
+    let count = list_from(&mut visits, root, probe, list, MAX_HEIGHT);
     Listing {
         count,
         steps: visits.steps(),

@@ -1,7 +1,7 @@
 -- Lists that are put into a list, and the part of an ordered list that does not precede a probe.
 use Rattle.std.proofs.Common.{◌≡◌, ℕ, suc, ◌+◌, ◌≤◌, Bool, true, false, not, List, [], ◌∷◌, ◌++◌, length, set}
 use Rattle.std.proofs.Common.{refl, ap, ◌∙◌, arith, length-set}
-use Rattle.std.specs.List.{filter, list_all}
+use Rattle.std.specs.List.{list_all}
 use Rattle.std.proofs.lemmas.Bool.{and_parts, not_from_false, not_from_true}
 use Rattle.std.proofs.lemmas.List.{set_past}
 use Rattle.std.proofs.lemmas.List.Elements.{filter-append}
@@ -48,6 +48,11 @@ none_from before (n ∷ ns) a =
     let p = and_parts (before n) (list_all before ns) a in
     let e = not_from_true (before n) p.0 in
     rw e (none_from before ns p.1)
+
+-- all nodes stand behind a probe that none precedes
+pub all_listed : (ns : List ℕ) → nodes_from (λ _. false) ns ≡ ns
+all_listed [] = refl
+all_listed (n ∷ ns) = ap (λ ms. n ∷ ms) (all_listed ns)
 
 all_from_probe : (before : ℕ → Bool) (ns : List ℕ) → list_all (λ n. not (before n)) ns ≡ true
     → nodes_from before ns ≡ ns

@@ -48,17 +48,12 @@ entry_noted before folded (fork red l n r) =
     ]
 
 -- the state of a search for an insertion is the point at which it begins
-pub way_in : {lt : ℕ → ℕ → Bool} {before : ℕ → Bool} → ((a b : ℕ) → lt a b ≡ true → before b ≡ true → before a ≡ true)
-    → (folded : Passed) (t : Tree) → is_sorted lt (nodes_of t) ≡ true
-    → folded ≡ noted passed before (record { node = None; above = None; entry = None }) t
-    → (folded.node ≡ first_not_before before (nodes_of t))
-    × (option_or folded.above folded.entry ≡ insert_point_of before t)
-way_in {before = before} agrees folded t o e =
-    let start : Passed = record { node = None; above = None; entry = None } in (
-      ap (λ (m : Passed). m.node) e
-          ∙ first_from agrees passed (λ (m : Passed). m.node) (λ m n red b. refl) start t o refl,
-      rw e (entry_noted before start t ∙ either_none (has_black_root t) (insert_point_of before t)),
-    )
+pub way_in : (before : ℕ → Bool) (folded : Passed) (t : Tree)
+    → folded ≡ noted passed before (record { above = None; entry = None }) t
+    → option_or folded.above folded.entry ≡ insert_point_of before t
+way_in before folded t e =
+    let start : Passed = record { above = None; entry = None } in
+    rw e (entry_noted before start t ∙ either_none (has_black_root t) (insert_point_of before t))
 
 -- ---- where a removal begins
 
@@ -153,14 +148,4 @@ entry_same f g (fork red l n r) same =
     let here = same n (in_middle (nodes_of l) n (nodes_of r)) in
     let left = entry_same f g l (λ m i. same m (in_left m (nodes_of l) n (nodes_of r) i)) in
     let right = entry_same f g r (λ m i. same m (in_right m (nodes_of l) n (nodes_of r) i)) in
-    rw (here, left, right) refl
-
--- so does it for a removal, where the order of the nodes of the tree and of that node is the same
-pub exit_same : (f g : ℕ → ℕ → Bool) (x : ℕ) (t : Tree) → ((m : ℕ) → is_in m (nodes_of t) ≡ true → f x m ≡ g x m)
-    → remove_point_of f x t ≡ remove_point_of g x t
-exit_same f g x leaf same = refl
-exit_same f g x (fork red l n r) same =
-    let here = same n (in_middle (nodes_of l) n (nodes_of r)) in
-    let left = exit_same f g x l (λ m i. same m (in_left m (nodes_of l) n (nodes_of r) i)) in
-    let right = exit_same f g x r (λ m i. same m (in_right m (nodes_of l) n (nodes_of r) i)) in
     rw (here, left, right) refl

@@ -1,8 +1,8 @@
 -- The end of the path of a search: an insertion begins there if the last node is black.
 use Rattle.std.proofs.Common.{◌≡◌, ℕ, ◌≤◌, Bool, true, false, Option, Some, None, arith, refl, sym, ap, ◌∙◌, inl, inr}
-use Rattle.std.specs.Prelude.{◌⊎◌, MatchOption}
+use Rattle.std.specs.Prelude.{◌⊎◌}
 use Rattle.std.proofs.lemmas.Bool.{cases_Bool}
-use Rattle.link_tree.specs.Tree.{Cell, Tree, leaf, fork, nodes_of, height, AreCellsOf, IsTree}
+use Rattle.link_tree.specs.Tree.{Cell, Tree, leaf, fork, nodes_of, height, AreCellsOf}
 use Rattle.link_tree.specs.Nodes.{is_in}
 use Rattle.link_tree.specs.Searching.{noted, path_length}
 use Rattle.link_tree.specs.Ways.{EndsPath, insert_point_of, entry_over, last_on, reached}

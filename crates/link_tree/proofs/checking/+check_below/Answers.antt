@@ -1,7 +1,7 @@
 use Rattle.std.proofs.Common.{◌≡◌, ℕ, suc, ◌+◌, ◌-◌, ◌*◌, ◌<◌, ◌≤◌, ◌^◌, Bool, true, false, cond}
 use Rattle.std.proofs.Common.{if◌then◌else◌, Option, Some, is_some, List, ◌∷◌, length, length-append, refl, sym, ◌∙◌}
 use Rattle.std.proofs.Common.{ap, subst, arith, add-one, Fits, w64}
-use Rattle.std.proofs.lemmas.Bool.{true≢false}
+use Rattle.std.proofs.lemmas.Bool.{and_from, and_parts, true≢false}
 use Rattle.link_tree.specs.Tree.{Tree, fork, height, nodes_of}
 use Rattle.link_tree.specs.Nodes.{is_in, leads}
 use Rattle.link_tree.specs.Between.{is_above, is_below, count_between}
@@ -17,12 +17,11 @@ use Rattle.link_tree.proofs.checking.+check_below.Given.{Over}
 
 -- ---- arithmetic: `a` steps before, `b` once the node is read, `d` and `e` after its parts
 
-five : (a b c d e f : ℕ) → b ≤ a + 2 → c ≤ b + 2 → d ≤ c + 1 → e ≡ d → f ≡ e → f ≤ a + 5
-five a b c d e f above below red left right = omega arith
+five : (a c d e f : ℕ) → c ≤ a + 4 → d ≤ c + 1 → e ≡ d → f ≡ e → f ≤ a + 5
+five a c d e f between red left right = omega arith
 
-room_read : (a b c d A B C : ℕ) → b ≤ a + 2 → c ≤ b + 2 → d ≤ c + 1 → A + B + 1 ≤ C
-    → a + 5 * C + 5 < 2 ^ 64 → d + 1 < 2 ^ 64
-room_read a b c d A B C above below red parts room = omega arith
+room_read : (a c d A B C : ℕ) → c ≤ a + 4 → d ≤ c + 1 → A + B + 1 ≤ C → a + 5 * C + 5 < 2 ^ 64 → d + 1 < 2 ^ 64
+room_read a c d A B C between red parts room = omega arith
 
 room_left : (a b A B C : ℕ) → b ≤ a + 5 → A + B + 1 ≤ C → a + 5 * C + 5 < 2 ^ 64 → b + 5 * A + 5 < 2 ^ 64
 room_left a b A B C few parts room = omega arith
@@ -108,11 +107,6 @@ record IsRead (g : Over) (s now : g.row.N.Denot) (link : Option ℕ) (n : ℕ) (
   red_is : red ≡ (g.N.Nodes.cells s n).red
   few : end ≤ start + 5
 
-is_below_at : (g : Over) (s s' : g.row.N.Denot) (n : ℕ) (high : Option ℕ) (b : Bool) → s' ≡ s
-    → b ≡ is_below (g.N.Nodes.order s') n high → b ≡ true → is_below (g.N.Nodes.order s) n high ≡ true
-is_below_at g s s' n high b e v k =
-    subst (λ (x : g.row.N.Denot). is_below (g.N.Nodes.order x) n high ≡ true) e (sym v ∙ k)
-
 read : (g : Over) (t : ℕ) (c : After-right-right g t)
     → IsRead g c.args.visits.now.nodes.now c.right-right.new.self.nodes.now c.args.link c.in-Some.node c.args.low
     c.args.high c.left-left.result c.right-right.result c.red-red.result c.args.visits.now.steps
@@ -120,21 +114,20 @@ read : (g : Over) (t : ℕ) (c : After-right-right g t)
 read g t c =
     let s = c.args.visits.now.nodes.now in
     let n = c.in-Some.node in
-    let e1 : c.stands_above.new.visits.nodes.now ≡ s = c.stands_above.ensures.nodes in
-    let e2 : c.stands_below.new.visits.nodes.now ≡ s = c.stands_below.ensures.nodes ∙ e1 in
+    let e2 : c.stands_between.new.visits.nodes.now ≡ s = c.stands_between.ensures.nodes in
+    let stands = and_parts (is_above (g.N.Nodes.order s) c.args.low n) (is_below (g.N.Nodes.order s) n c.args.high)
+    (sym c.stands_between.ensures.value ∙ c.if-not-stands_between.false) in
     let e3 : c.red-red.new.self.nodes.now ≡ s = c.red-red.ensures.nodes ∙ e2 in
     let e4 : c.left-left.new.self.nodes.now ≡ s = c.left-left.ensures.nodes ∙ e3 in
     record {
       is = c.in-Some.is;
       here = c.right-right.ensures.nodes ∙ e4;
-      above = sym c.stands_above.ensures.value ∙ c.if-not-stands_above.false;
-      below = is_below_at g s c.stands_above.new.visits.nodes.now n c.args.high c.stands_below.result e1
-          c.stands_below.ensures.value c.if-not-stands_below.false;
+      above = stands.0;
+      below = stands.1;
       left_is = c.left-left.ensures.value ∙ ap (λ (x : g.row.N.Denot). (g.N.Nodes.cells x n).left) e3;
       right_is = c.right-right.ensures.value ∙ ap (λ (x : g.row.N.Denot). (g.N.Nodes.cells x n).right) e4;
       red_is = c.red-red.ensures.value ∙ ap (λ (x : g.row.N.Denot). (g.N.Nodes.cells x n).red) e2;
-      few = five _ _ _ _ _ _ c.stands_above.ensures.steps_upper c.stands_below.ensures.steps_upper
-          c.red-red.ensures.steps_upper
+      few = five _ _ _ _ _ c.stands_between.ensures.steps_upper c.red-red.ensures.steps_upper
           (c.left-left.ensures.unchanged c.red-red.ensures.position)
           (c.right-right.ensures.unchanged c.left-left.ensures.position);
     }
@@ -248,13 +241,15 @@ module _ {g : Over} {s now : g.row.N.Denot} {link : Option ℕ} {n : ℕ} {low h
 
 -- ---- answers
 
-pub returns-then-not-stands_above-clause-complete : goal.returns-then-not-stands_above-clause-complete
-returns-then-not-stands_above-clause-complete g t c = λ u b k lower.
+pub returns-then-not-stands_between-clause-complete : goal.returns-then-not-stands_between-clause-complete
+returns-then-not-stands_between-clause-complete g t c = λ u b k lower.
     let s = c.args.visits.now.nodes.now in
     let here = subst (λ (o : Option ℕ). Sound g s o c.args.low c.args.high c.args.red_above u b) c.in-Some.is k in
     let p = parts_of (strict g.met.N.Nodes s) (g.N.Nodes.cells s)
     c.in-Some.node c.args.low c.args.high c.args.red_above u b here in
-    sym c.if-not-stands_above.true ∙ (c.stands_above.ensures.value ∙ p.above)
+    sym c.if-not-stands_between.true ∙ (c.stands_between.ensures.value ∙ and_from
+    (is_above (g.N.Nodes.order s) c.args.low c.in-Some.node) (is_below (g.N.Nodes.order s) c.in-Some.node c.args.high)
+    p.above p.below)
 
 -- the node parts those of the closed list
 counted : (g : Over) (t : ℕ) (c : After-red-red g t)
@@ -267,20 +262,19 @@ counted g t c =
     let ns = c.requires.no_overflow.0 in
     let h = g.N.Nodes.cells s in
     let listed = closed_link (strict g.met.N.Nodes s) h ns n c.args.link c.in-Some.is c.requires.no_overflow.2 in
-    let below = is_below_at g s c.stands_above.new.visits.nodes.now n c.args.high c.stands_below.result
-    c.stands_above.ensures.nodes c.stands_below.ensures.value c.if-not-stands_below.false in
+    let stands = and_parts (is_above (g.N.Nodes.order s) c.args.low n) (is_below (g.N.Nodes.order s) n c.args.high)
+    (sym c.stands_between.ensures.value ∙ c.if-not-stands_between.false) in
     counts_split (strict g.met.N.Nodes s) h ns n c.args.low c.args.high listed
-    (sym c.stands_above.ensures.value ∙ c.if-not-stands_above.false) below
+    stands.0 stands.1
 
 pub left-left-requires-clause-no_overflow : goal.left-left-requires-clause-no_overflow
 left-left-requires-clause-no_overflow g t c =
-    room_read _ _ _ _ _ _ _ c.stands_above.ensures.steps_upper c.stands_below.ensures.steps_upper
-    c.red-red.ensures.steps_upper
+    room_read _ _ _ _ _ _ c.stands_between.ensures.steps_upper c.red-red.ensures.steps_upper
     (counted g t (goal.at.left-left-requires-clause-no_overflow g t c).After-red-red) c.requires.no_overflow.3
 
 pub right-right-requires-clause-no_overflow : goal.right-right-requires-clause-no_overflow
 right-right-requires-clause-no_overflow g t c =
-    room_read _ _ _ _ _ _ _ c.stands_above.ensures.steps_upper c.stands_below.ensures.steps_upper
+    room_read _ _ _ _ _ _ c.stands_between.ensures.steps_upper
     (rw (c.left-left.ensures.unchanged c.red-red.ensures.position) c.red-red.ensures.steps_upper)
     (counted g t (goal.at.right-right-requires-clause-no_overflow g t c).After-red-red) c.requires.no_overflow.3
 

@@ -4,6 +4,7 @@ use Rattle.link_tree.specs.Nodes.{leads}
 use Rattle.link_tree.specs.Listing.{IsLowSearchTree, nodes_from}
 use Rattle.link_tree.proofs.trees.Heights.{bounds_height}
 use Rattle.link_tree.proofs.trees.NodeLaws.{low_tree}
+use Rattle.link_tree.proofs.listing.Listings.{skipped_height}
 use Rattle.link_tree.proofs.listing.Rows.{filled_is}
 use Rattle.link_tree.proofs.listing.list_nodes_from.Goals as goal
 use Rattle.link_tree.proofs.listing.list_nodes_from.Given.{Over}
@@ -14,7 +15,7 @@ below : (g : Over) (s : g.row.N.Denot) (link : Option ℕ) (t : Tree)
     → leads (g.N.Nodes.is_node s) link ≡ true → IsLowSearchTree (g.N.Nodes.order s) (g.N.Nodes.cells s) link 82 t
 below g s link t k good =
     let f = low_tree g.met.N.Nodes s k good in
-    record { below = record { tree = k.tree; low = omega arith }; ordered = k.ordered }
+    record { tree = k.tree; ordered = k.ordered; low = omega arith }
 
 pub list_from-count-requires-clause-tree : goal.list_from-count-requires-clause-tree
 list_from-count-requires-clause-tree g c =
@@ -46,4 +47,5 @@ returns-clause-steps g c = λ t k.
     let zero = c.new-visits.ensures.steps in
     let told = c.steps.ensures in
     let high = bounds_height t k.red_black in
+    let skips = skipped_height (g.N.Nodes.before s c.args.probe.now) t in
     omega arith

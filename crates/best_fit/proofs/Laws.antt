@@ -15,7 +15,6 @@ pub use Rattle.best_fit.proofs.extents.Proper.{proper_from-IsFirst, proper_from-
 unfoldable pub use Rattle.best_fit.proofs.extents.Proper.{IsHole}
 -- extents in order: one is inserted or removed
 pub use Rattle.best_fit.proofs.extents.Order.{AllByRecursion-insert, AllByRecursion-insert_from}
-pub use Rattle.best_fit.proofs.extents.Order.{AllByRecursion-insert_new}
 pub use Rattle.best_fit.proofs.extents.Order.{AllByRecursion-others, insert-comm, list_any-insert, others-comm}
 pub use Rattle.best_fit.proofs.extents.Order.{others-insert}
 pub use Rattle.best_fit.proofs.extents.Order.{others-insert_same}
@@ -29,7 +28,7 @@ pub use Rattle.best_fit.proofs.allocation.NewBlock.{changed-header_blocks, alloc
 pub use Rattle.best_fit.proofs.allocation.NewBlock.{allocated-room}
 pub use Rattle.best_fit.proofs.allocation.NewBlock.{allocated-room_before, changed-keeps, changed-keeps_block}
 pub use Rattle.best_fit.proofs.allocation.NewBlock.{changed-live}
-pub use Rattle.best_fit.proofs.allocation.NewBlock.{changed-room, holds-fewer, is_red-payload, names-has_room}
+pub use Rattle.best_fit.proofs.allocation.NewBlock.{changed-room, holds-fewer, is_red-payload}
 pub use Rattle.best_fit.proofs.allocation.NewBlock.{released-live}
 pub use Rattle.best_fit.proofs.allocation.NewBlock.{resized-live, still_allocated, still_allocated-block}
 -- a tile is free or in use; the gaps and the live set of tiles in each case
@@ -76,8 +75,8 @@ pub use Rattle.best_fit.proofs.tags.Frames.{keeps-refl as keeps-all}
 pub use Rattle.raw_region.proofs.Laws.{SameBytes-read as read-same, SameBytes-trans as same-trans}
 pub use Rattle.raw_region.proofs.Laws.{SameBytes-word as word-same}
 pub use Rattle.best_fit.proofs.tags.Writes.{Room}
-pub use Rattle.best_fit.proofs.exchange.OneExchange.{IsRoomy, all-same-but, but-trans, exchanged-written, regrow-serves}
-pub use Rattle.best_fit.proofs.exchange.OneExchange.{regrown-live, roomy, written-but}
+pub use Rattle.best_fit.proofs.exchange.OneExchange.{IsRoomy, all-same-but, but-trans, regrow-serves}
+pub use Rattle.best_fit.proofs.exchange.OneExchange.{roomy, written-but}
 -- several exchanges, one after another, and the blocks that they keep
 pub use Rattle.best_fit.proofs.exchange.ManyExchanges.{AreInUse, IsFound, IsNone, SameSpread, all-found-in, all-in-use}
 pub use Rattle.best_fit.proofs.exchange.ManyExchanges.{back-again}
@@ -88,7 +87,7 @@ pub use Rattle.best_fit.proofs.exchange.ManyExchanges.{found-inserted}
 pub use Rattle.best_fit.proofs.exchange.ManyExchanges.{found-none, found-without, inserted-append, kept, kept-beside}
 pub use Rattle.best_fit.proofs.exchange.ManyExchanges.{kept-but}
 pub use Rattle.best_fit.proofs.exchange.ManyExchanges.{kept-found, last-first, middle-first, rest-rises, rising-others}
-pub use Rattle.best_fit.proofs.exchange.ManyExchanges.{spread-before, spread-behind, spread-refl, spread-trans}
+pub use Rattle.best_fit.proofs.exchange.ManyExchanges.{spread-behind, spread-refl}
 pub use Rattle.best_fit.proofs.exchange.ManyExchanges.{two-apart}
 -- a block that is lengthened in place, and the undoing of it
 pub use Rattle.best_fit.proofs.in_place_resize.Inverse.{not-wide, taken-back, wide-longer, wide-same, widened-back}

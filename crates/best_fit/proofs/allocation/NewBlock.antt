@@ -89,23 +89,6 @@ has_room-names h n [] t = t
 has_room-names h n (x ∷ xs) t = names_step h n x xs (has_room-names h n xs)
     (or_cases (roomy h n x) (list_any (roomy h n) xs) t)
 
--- by whether the first extent is the one
-room_step : (from : ℕ) (x : Extent) (xs : List Extent) (to h : ℕ) → IsFirst from x xs to
-    → (IsTrue (names h xs) → IsTrue (list_any (roomy h 16) xs))
-    → ((handle x == h) ≡ true) ⊎ (names h xs ≡ true) → IsTrue (list_any (roomy h 16) (x ∷ xs))
-room_step from x xs to h f rest (inl e) =
-    or_left (roomy h 16 x) (list_any (roomy h 16) xs)
-    (and_from (handle x == h) (holds x 16) e (le-leb 32 x.len f.block.long))
-room_step from x xs to h f rest (inr t) = or_right (roomy h 16 x) (list_any (roomy h 16) xs) (rest t)
-
--- each block of a proper list has room for 16 bytes
-pub names-has_room : (from : ℕ) (xs : List Extent) (to h : ℕ) → IsTrue (proper_from from xs to) → IsTrue (names h xs)
-    → IsTrue (list_any (roomy h 16) xs)
-names-has_room from [] to h p t = t
-names-has_room from (x ∷ xs) to h p t =
-    let f = proper_from-IsFirst from x xs to p in
-    room_step from x xs to h f (names-has_room (end_of x) xs to h f.rest) (or_cases (handle x == h) (names h xs) t)
-
 -- ---- the other blocks
 
 -- the extents of a proper list are after its beginning

@@ -44,10 +44,6 @@ middle-first xs ys ws = record {
 pub spread-refl : (xs : List Extent) → SameSpread xs xs
 spread-refl xs = record { same = λ zs r. refl }
 
--- two lists spread as a third are spread alike
-pub spread-trans : (xs ys ws : List Extent) → SameSpread xs ys → SameSpread ys ws → SameSpread xs ws
-spread-trans xs ys ws p q = record { same = λ zs r. p.same zs r ∙ q.same zs (subst (Rising 128) (p.same zs r) r) }
-
 -- the last extents come first
 pub last-first : (xs ys : List Extent) → SameSpread (xs ++ ys) (ys ++ xs)
 last-first xs ys = record {
@@ -63,13 +59,6 @@ spread-behind xs ys ws p = record {
       let two : Rising 128 (inserted xs (inserted ys zs)) = subst (Rising 128) (inserted-append xs ys zs) r in
       inserted-append xs ys zs ∙ ap (inserted xs) (p.same zs (rising-inserted 128 xs (inserted ys zs) two).0)
       ∙ sym (inserted-append xs ws zs);
-}
-
--- the same extents before others
-pub spread-before : (xs ys ws : List Extent) → SameSpread xs ys → SameSpread (xs ++ ws) (ys ++ ws)
-spread-before xs ys ws p = record {
-  same = λ zs r. inserted-append xs ws zs ∙ p.same (inserted ws zs) (subst (Rising 128) (inserted-append xs ws zs) r)
-      ∙ sym (inserted-append ys ws zs);
 }
 
 -- ---- live sets

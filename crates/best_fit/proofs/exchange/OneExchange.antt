@@ -3,10 +3,10 @@ use Rattle.best_fit.proofs.Common.{◌≡◌, ◌≢◌, refl, sym, ap, subst, �
 use Rattle.best_fit.proofs.Common.{false}
 use Rattle.best_fit.proofs.Common.{Option, Some, None, List, [], ◌∷◌, arith, if◌then◌else◌, IsTrue, IfSome}
 use Rattle.best_fit.proofs.Common.{option_map, min, Result, and_from, le-leb, leb-true, lt-leb, AllByRecursion}
-use Rattle.best_fit.proofs.Common.{both_ways, same_Some, none-some, SameBytes-trans, SameBytesExcept-word, Memory}
+use Rattle.best_fit.proofs.Common.{both_ways, same_Some, none-some, SameBytesExcept-word, Memory}
 use Rattle.best_fit.proofs.Common.{WindowState, SameBytesExcept}
 use Rattle.best_fit.proofs.Common.{bytes_of}
-use Rattle.best_fit.proofs.Common.{read, Storage, current, exchanged, without_all, ExchangesBlocks, SameBlockExcept}
+use Rattle.best_fit.proofs.Common.{read, Storage, current, exchanged, SameBlockExcept}
 use Rattle.best_fit.proofs.Common.{RegrowsOk, Regrows, serves, same_role, Extent, LiveSet, handle, end_of, holds}
 use Rattle.best_fit.proofs.Common.{is_proper, insert, others, added, released, place, regrow, longer, Allocates}
 use Rattle.best_fit.proofs.Common.{AllocatesOk, ChangesBytes, TryExtends, ResizesBlock, IsHeap, Deallocates}
@@ -14,8 +14,7 @@ use Rattle.best_fit.proofs.Common.{EncodesLiveSet}
 use Rattle.best_fit.proofs.Common.{SameBlock, KeepsBlocks, extent_at, has_room, live_of}
 use Rattle.std.specs.Prelude.{Ok, Err, MatchResult}
 use Rattle.raw_region.proofs.Laws.{SameBytes-read}
-use Rattle.best_fit.specs.Exchange.{ReplacesBlocks, ReplacesBlock, RegrowsNoSpace, Replaces}
-use Rattle.best_fit.proofs.tags.OneLiveSet.{lay_out_one}
+use Rattle.best_fit.specs.Exchange.{ReplacesBlock, RegrowsNoSpace, Replaces}
 use Rattle.best_fit.proofs.tags.Writes.{Room, room_block}
 use Rattle.best_fit.proofs.tags.Frames.{keeps-refl, keeps-trans}
 use Rattle.best_fit.proofs.allocation.NewBlock.{allocated-live, changed-live}
@@ -302,12 +301,7 @@ regrows-none old new n used (Ok h) a = record {
 }
 regrows-none old new n used (Err e) a = record { none = a.none; same = a.same }
 
--- ---- a block regrown, and then bytes written in a block that stayed
-
--- the live set afterwards
-pub regrown-live : (old mid : WindowState) (gone : List Extent) (y : Extent) → ReplacesBlocks current old mid gone y
-    → live_of mid.bytes ≡ exchanged (live_of old.bytes) gone (y ∷ [])
-regrown-live old mid gone y r = lay_out_one current mid.bytes (exchanged (live_of old.bytes) gone (y ∷ [])) r.live
+-- ---- bytes written in a block that stayed
 
 same-but : (m m' : Memory) (from n : ℕ) (x : Extent) → SameBlock m m' x → SameBlockExcept m m' from n x
 same-but m m' from n x s = record { payload = λ k f g h. s.payload.at k f g; colour = s.colour }
@@ -347,29 +341,6 @@ written-but mid new l h from n x p e c f g =
     subst (AllByRecursion (SameBlockExcept m m' from n)) (sym (in_use l h x p e).is)
     (AllByRecursion-insert_from (SameBlockExcept m m' from n) x (others h l.extents) (own-but m m' from n x c.rest f)
     (all-same-but m m' from n (others h l.extents) k.blocks))
-
--- the heap afterwards
-pub exchanged-written : (old mid new : WindowState) (gone : List Extent) (y x : Extent) (h from n : ℕ)
-    → ReplacesBlocks current old mid gone y → extent_at (exchanged (live_of old.bytes) gone (y ∷ [])) h ≡ Some x
-    → ChangesBytes current mid new from n → handle x ≤ from → from + n ≤ end_of x
-    → ExchangesBlocks current old new from n gone (y ∷ [])
-exchanged-written old mid new gone y x h from n r e c f g =
-    let l : LiveSet = exchanged (live_of old.bytes) gone (y ∷ []) in
-    let m : Memory = bytes_of mid.bytes in
-    let m' : Memory = bytes_of new.bytes in
-    let rest : List Extent = without_all gone (live_of old.bytes).extents in
-    let all : AllByRecursion (SameBlockExcept m m' from n) (insert y rest) = written-but mid new l h from n x
-    r.live.proper e c f g in
-    let k : KeepsBlocks mid new (others h l.extents) = written-keeps mid new x (others h l.extents) from n
-    (in_use-alone l h x r.live.proper e) c.place c.rest f g in
-    record {
-      live = subst (EncodesLiveSet current new.bytes) (regrown-live old mid gone y r) c.live;
-      place = record { before = c.place.before ∙ r.keeps.place.before; after = c.place.after ∙ r.keeps.place.after };
-      front = SameBytes-trans (bytes_of old.bytes) m m' 0 24 r.keeps.front k.front;
-      behind = SameBytes-trans (bytes_of old.bytes) m m' 32 128 r.keeps.behind k.behind;
-      blocks = but-trans (bytes_of old.bytes) m m' from n rest r.keeps.blocks
-          (all_of-insert (SameBlockExcept m m' from n) y rest all).1;
-    }
 
 -- ---- the result of regrowth
 

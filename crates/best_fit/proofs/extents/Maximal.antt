@@ -109,30 +109,19 @@ first_covers from to a b low some high =
       ends = omega arith;
     })
 
--- a gap of the first list
-covered_left : (gs hs : List Gap) (a b : ℕ) → IsCovered gs a b → IsCovered (gs ++ hs) a b
-covered_left gs hs a b c = record {
-  gap = c.gap;
-  listed = Contains-append_left gs hs c.gap c.listed;
-  begins = c.begins;
-  ends = c.ends;
-}
-
--- a gap of the second list
-covered_right : (gs hs : List Gap) (a b : ℕ) → IsCovered hs a b → IsCovered (gs ++ hs) a b
-covered_right gs hs a b c = record {
-  gap = c.gap;
-  listed = Contains-append_right gs hs c.gap c.listed;
-  begins = c.begins;
-  ends = c.ends;
-}
+-- a gap of a list covers the same in a list that has its gaps
+covered_in : (gs hs : List Gap) (a b : ℕ) → ((g : Gap) → Contains gs g → Contains hs g) → IsCovered gs a b
+    → IsCovered hs a b
+covered_in gs hs a b has c = record { gap = c.gap; listed = has c.gap c.listed; begins = c.begins; ends = c.ends }
 
 -- by the side of the first extent on which the interval lies
 covers_step : (from : ℕ) (y : Extent) (ys : List Extent) (to a b : ℕ) → IsBetween from (y ∷ ys) to a b
     → (IsBetween (end_of y) ys to a b → IsCovered (gaps_from (end_of y) ys to) a b) → (end_of y ≤ a) ⊎ (b ≤ y.offset)
     → IsCovered (gaps_from from (y ∷ ys) to) a b
 covers_step from y ys to a b between rest (inl l) =
-    covered_right (gap_between from y.offset) (gaps_from (end_of y) ys to) a b
+    let gs : List Gap = gap_between from y.offset in
+    let hs : List Gap = gaps_from (end_of y) ys to in
+    covered_in hs (gs ++ hs) a b (Contains-append_right gs hs)
     (rest (record {
       low = l;
       some = between.some;
@@ -140,7 +129,9 @@ covers_step from y ys to a b between rest (inl l) =
       apart = All-tail (λ x. IsOutsideRange x a b) y ys between.apart;
     }))
 covers_step from y ys to a b between rest (inr l) =
-    covered_left (gap_between from y.offset) (gaps_from (end_of y) ys to) a b
+    let gs : List Gap = gap_between from y.offset in
+    let hs : List Gap = gaps_from (end_of y) ys to in
+    covered_in gs (gs ++ hs) a b (Contains-append_left gs hs)
     (first_covers from y.offset a b between.low between.some l)
 
 -- some gap covers each interval that meets no extent

@@ -58,19 +58,6 @@ AllByRecursion-insert P x [] all = tt
 AllByRecursion-insert P x (y ∷ ys) all = insert_step P x y ys (AllByRecursion-insert P x ys)
     (cases_lt x.offset y.offset) all
 
--- by whether the new extent is put first
-new_step : (P : Extent → Type 0) (x y : Extent) (ys : List Extent) → (AllByRecursion P (insert x ys) → P x)
-    → (x.offset < y.offset) ⊎ (y.offset ≤ x.offset) → AllByRecursion P (insert x (y ∷ ys)) → P x
-new_step P x y ys rest (inl l) all = (subst (AllByRecursion P) (insert-here x y ys l) all).0
-new_step P x y ys rest (inr l) all = rest (subst (AllByRecursion P) (insert-past x y ys l) all).1
-
--- and of the new one
-pub AllByRecursion-insert_new : (P : Extent → Type 0) (x : Extent) (ys : List Extent)
-    → AllByRecursion P (insert x ys) → P x
-AllByRecursion-insert_new P x [] all = all.0
-AllByRecursion-insert_new P x (y ∷ ys) all = new_step P x y ys (AllByRecursion-insert_new P x ys)
-    (cases_lt x.offset y.offset) all
-
 -- a property of a new extent and of each other holds for all
 pub AllByRecursion-insert_from : (P : Extent → Type 0) (x : Extent) (ys : List Extent) → P x → AllByRecursion P ys
     → AllByRecursion P (insert x ys)

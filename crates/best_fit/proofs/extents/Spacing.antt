@@ -10,7 +10,7 @@ use Rattle.best_fit.proofs.Common.{without_all, exchanged}
 use Rattle.best_fit.proofs.Common.{Extent, LiveSet, handle, end_of, holds, is_hole, is_proper, proper_from}
 use Rattle.best_fit.proofs.Common.{is_legal_size, insert, others, added, SameBlock, KeepsBlocks, extent_at, has_room}
 use Rattle.std.proofs.Common.{cond}
-use Rattle.best_fit.proofs.extents.Order.{AllByRecursion-insert_from, insert-comm, list_any-insert}
+use Rattle.best_fit.proofs.extents.Order.{AllByRecursion-insert_from, insert-comm}
 use Rattle.best_fit.proofs.extents.Proper.{is_hole-IsHole, insert-here, insert-past, others-here, others-past}
 use Rattle.best_fit.proofs.extents.Proper.{proper_from-IsFirst}
 
@@ -318,11 +318,6 @@ room-less l h n k f t =
     any-if (λ (x : Extent). (handle x == h) && holds x n) (λ (x : Extent). (handle x == h) && holds x k) l.extents
     (λ x g. let two = and_parts (handle x == h) (holds x n) g in let r = leb-true (n + 16) x.len two.1 in
     and_from (handle x == h) (holds x k) two.0 (le-leb (k + 16) x.len (omega arith))) t
-
--- an extent that is found with its length has the room
-pub room-new : (l : LiveSet) (x : Extent) (n : ℕ) → n + 16 ≤ x.len → IsTrue (has_room (added l x) (handle x) n)
-room-new l x n f = list_any-insert (λ (y : Extent). (handle y == handle x) && holds y n) x l.extents
-    (and_from (handle x == handle x) (holds x n) (eq-eqb (handle x) (handle x) refl) (le-leb (n + 16) x.len f))
 
 -- ---- the blocks that stay
 

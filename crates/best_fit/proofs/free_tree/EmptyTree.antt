@@ -22,7 +22,8 @@ use Rattle.best_fit.proofs.tags.TileRows.{Apart, Row, is_merged-Apart, Apart-is_
 use Rattle.best_fit.proofs.tags.TileRows.{gaps_of-free}
 use Rattle.best_fit.proofs.tags.TileRows.{gaps_of-used}
 use Rattle.best_fit.proofs.tags.UnchangedTags.{all_joined}
-use Rattle.best_fit.proofs.free_tree.WalkTurns.{Ended, Passed, Turn, free_if, gaps_past_block, gaps_past_gap}
+use Rattle.best_fit.proofs.free_tree.WalkTurns.{Ended, Passed, free_if, gaps_past_block, gaps_past_gap}
+use Rattle.best_fit.proofs.tile_walk.Walk.{Turn}
 
 -- ---- tags without red gaps are good tags
 

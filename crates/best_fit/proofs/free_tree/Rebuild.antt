@@ -21,7 +21,8 @@ use Rattle.best_fit.proofs.allocation.GapToBlock.{lays_out}
 use Rattle.best_fit.proofs.gaps.LinksOnly.{SplitsAlike, regrown_keeps, regrown_live, splits_alike, tree_says}
 use Rattle.best_fit.proofs.free_tree.LinkAndUnlink.{grown_place, grown_tree}
 use Rattle.best_fit.proofs.tags.TileRows.{gaps_of-append, gaps_of-free}
-use Rattle.best_fit.proofs.free_tree.WalkTurns.{Ended, Passed, Turn, free_if, gaps_past_block}
+use Rattle.best_fit.proofs.free_tree.WalkTurns.{Ended, Passed, free_if, gaps_past_block}
+use Rattle.best_fit.proofs.tile_walk.Walk.{Turn}
 use Rattle.best_fit.proofs.free_tree.UnlinkIfGap.{regrown-refl}
 
 -- ---- the first of some gaps

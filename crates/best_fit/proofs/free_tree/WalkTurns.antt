@@ -4,44 +4,12 @@ use Rattle.best_fit.proofs.Common.{Option, Some, None, is_some, both_ways, appen
 use Rattle.best_fit.proofs.Common.{next_in}
 use Rattle.best_fit.proofs.Common.{HasTileAt, EncodesTiles, Gap, gap_of, gaps_of}
 use Rattle.best_fit.proofs.tags.TileRows.{unused, used, use_cases, gaps_of-append, gaps_of-free, gaps_of-used}
-use Rattle.best_fit.proofs.tile_walk.Walk.{Meets, first_here, meets, next_here, next_nearer, none_left, passed_on}
-use Rattle.best_fit.proofs.tile_walk.Walk.{to_go}
-
--- the current tile is the first of the remaining ones, and the property holds for the passed and the remaining tiles
-pub record Walk (c : WindowState) (P : List Tile → List Tile → Type 0) (ahead : Option Tile) : Type 0 where
-  pub passed : List Tile
-  pub rest : List Tile
-  pub said : EncodesTiles c (passed ++ rest)
-  pub here : ahead ≡ first_in rest
-  pub holds : P passed rest
+use Rattle.best_fit.proofs.tile_walk.Walk.{Walk, meets, next_here, next_nearer, none_left, passed_on, to_go}
 
 -- the walk begins with all tiles ahead
 pub walk_start : (c : WindowState) (P : List Tile → List Tile → Type 0) (ts : List Tile) → EncodesTiles c ts → P [] ts
     → (ahead : Option Tile) → ((us : List Tile) → EncodesTiles c us → ahead ≡ first_in us) → Walk c P ahead
 walk_start c P ts said holds ahead is = record { passed = []; rest = ts; said = said; here = is ts said; holds = holds }
-
--- the current tile of the walk
-pub record Turn (c : WindowState) (P : List Tile → List Tile → Type 0) (tile : Tile) : Type 0 where
-  pub passed : List Tile
-  pub back : List Tile
-  pub said : EncodesTiles c (passed ++ (tile ∷ back))
-  pub holds : P passed (tile ∷ back)
-  pub meets : Meets c tile
-
--- a tile ahead: one turn of the walk
-pub turn : (c : WindowState) (P : List Tile → List Tile → Type 0) (ahead : Option Tile) → Walk c P ahead → (tile : Tile)
-    → ahead ≡ Some tile → Turn c P tile
-turn c P ahead w tile is =
-    let h = first_here tile ahead w.rest is w.here in
-    let said : EncodesTiles c (w.passed ++ (tile ∷ h.back)) =
-    subst (λ (ts : List Tile). EncodesTiles c (w.passed ++ ts)) h.list w.said in
-    record {
-      passed = w.passed;
-      back = h.back;
-      said = said;
-      holds = subst (P w.passed) h.list w.holds;
-      meets = meets c w.passed tile h.back said;
-    }
 
 -- The tile at an offset is passed: the walk continues with the tiles after it. Its colour can have changed.
 pub record Passed (c : WindowState) (P : List Tile → List Tile → Type 0) (at : ℕ) : Type 0 where

@@ -256,6 +256,13 @@ node_len c n d =
     ∙ len_in_row 128 f.front f.tile f.back (length c.bytes - 16) n
     (subst (λ (ts : List Tile). Row 128 ts (length c.bytes - 16)) f.list d.row) f.free f.at
 
+-- the length that is read of a node's tile is the gap's
+pub len_read : (c : WindowState) (n : ℕ) → (d : NodeAt c n) → (t : Tile)
+    → ((ts : List Tile) → EncodesTiles c ts → tile_in ts (n - 16) ≡ Some t) → t.len ≡ len_in (gaps_in c) n
+len_read c n d t is =
+    let low = d.low in
+    ap (λ (u : Tile). u.len) (node_read c n (n - 16) d (omega arith) t is) ∙ sym (node_len c n d)
+
 -- two nodes share no byte
 pub nodes_apart : (c : WindowState) (n m : ℕ) → NodeAt c n → NodeAt c m → (m ≡ n → ⊥) → (m + 32 ≤ n) ⊎ (n + 32 ≤ m)
 nodes_apart c n m d e other =

@@ -36,9 +36,6 @@ one_precedes g h n e = by_len (cases_lt h.len g.len)
         by_less (inl s) l = absurd (n s)
         by_less (inr s) l = omega arith
 
-    by_more : h.len ≤ g.len → (g.len < h.len) ⊎ (h.len ≤ g.len) → g.len ≤ h.len → precedes h g ≡ true
-    by_more a b c = by_offset c a (cases_lt h.offset g.offset)
-
     by_len : (h.len < g.len) ⊎ (g.len ≤ h.len) → precedes h g ≡ true
     by_len (inl l) = Comes-comes h.len h.offset g.len g.offset (inl l)
     by_len (inr l) = by_equal (cases_lt g.len h.len)

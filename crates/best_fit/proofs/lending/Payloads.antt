@@ -32,6 +32,18 @@ live_at v c h e heap live =
       long = long;
     }
 
+-- the tag of a block in use lies 16 bytes before its handle, also as an equal window has the block
+pub live_tag : (v c d : WindowState) (h : ℕ) → v ≡ c → d ≡ c → IsHeap current c.bytes
+    → IsTrue (is_live_in (live_of v.bytes) h)
+    → (h - 16 + 16 ≡ h) × IsTrue (is_live_in (live_of d.bytes) (h - 16 + 16))
+live_tag v c d h e f heap live =
+    let low = (live_at v c h e heap live).low in
+    let same : h - 16 + 16 ≡ h = omega arith in (
+      same,
+      subst (λ (u : WindowState). IsTrue (is_live_in (live_of u.bytes) (h - 16 + 16))) (e ∙ sym f)
+          (subst (λ k. IsTrue (is_live_in (live_of v.bytes) k)) (sym same) live),
+    )
+
 -- such a block, whose tile was read
 pub record ReadAt (c : WindowState) (h len : ℕ) : Type 0 where
   pub block : Block c h

@@ -1,6 +1,6 @@
 -- A list after a tile is cut, or joined with a free one after it, by the tile that was read.
 use Rattle.best_fit.proofs.Common.{◌≡◌, refl, sym, ap, subst, ◌∙◌, ℕ, ◌+◌, ◌-◌, ◌<◌, ◌≤◌, List, [], ◌∷◌, ◌++◌, length}
-use Rattle.best_fit.proofs.Common.{append_assoc, arith, nat_lt, Option, Some, None, cond-true, cond-false, lt-ltb}
+use Rattle.best_fit.proofs.Common.{append_assoc, nat_lt, Option, Some, None, cond-true, cond-false, lt-ltb}
 use Rattle.best_fit.proofs.Common.{le-ltb, WindowState, Tile, first_in, in_two, next_in, previous_in, tile_in, is_free}
 use Rattle.best_fit.proofs.Common.{HasFreeNext, HasTileAt, EncodesTiles, one_tile_at_an_offset, cut_to, gap_offset}
 use Rattle.best_fit.proofs.Common.{joined_free_at, with_free_behind, none-some, same_Some, true, false, if◌then◌else◌}

@@ -31,13 +31,17 @@ nearer t [] end n r l = let e : t.offset + t.len ≡ end = r.3 in let long = r.1
 nearer t (u ∷ us) end n r l = let o = r.3.0 in let long = r.1 in
     let on = row_reaches (t.offset + t.len) (u ∷ us) end r.3 in omega arith
 
--- the current tile is the first of the remaining ones, for which the property holds
-pub record Left (c : WindowState) (ahead : Option Tile) (P : List Tile → Type 0) : Type 0 where
+-- the current tile is the first of the remaining ones, and the property holds for the passed and the remaining tiles
+pub record Walk (c : WindowState) (P : List Tile → List Tile → Type 0) (ahead : Option Tile) : Type 0 where
   pub passed : List Tile
   pub rest : List Tile
   pub said : EncodesTiles c (passed ++ rest)
   pub here : ahead ≡ first_in rest
-  pub holds : P rest
+  pub holds : P passed rest
+
+-- a walk with a property of the remaining tiles
+abbrev pub Left : WindowState → Option Tile → (List Tile → Type 0) → Type 0
+Left c ahead P = Walk c (λ passed rest. P rest) ahead
 
 -- a walk begins with all tiles
 pub left_start : (c : WindowState) (P : List Tile → Type 0) → IsHeap current c.bytes → (ahead : Option Tile)
@@ -106,28 +110,37 @@ module _ (c : WindowState) (passed : List Tile) (tile : Tile) (back : List Tile)
       (nearer tile back (length c.bytes - 16) (length c.bytes) rows
       (let low = (legal_size (length c.bytes) said.size).low in omega arith))
 
--- a property of the current tile and the tiles after it
-pub record Next (c : WindowState) (P : List Tile → Type 0) (tile : Tile) : Type 0 where
+-- the current tile of a walk
+pub record Turn (c : WindowState) (P : List Tile → List Tile → Type 0) (tile : Tile) : Type 0 where
   pub passed : List Tile
   pub back : List Tile
   pub said : EncodesTiles c (passed ++ (tile ∷ back))
-  pub holds : P (tile ∷ back)
+  pub holds : P passed (tile ∷ back)
   pub meets : Meets c tile
+
+-- a tile ahead: one turn of the walk
+pub turn : (c : WindowState) (P : List Tile → List Tile → Type 0) (ahead : Option Tile) → Walk c P ahead → (tile : Tile)
+    → ahead ≡ Some tile → Turn c P tile
+turn c P ahead w tile is =
+    let h = first_here tile ahead w.rest is w.here in
+    let said : EncodesTiles c (w.passed ++ (tile ∷ h.back)) =
+    subst (λ (ts : List Tile). EncodesTiles c (w.passed ++ ts)) h.list w.said in
+    record {
+      passed = w.passed;
+      back = h.back;
+      said = said;
+      holds = subst (P w.passed) h.list w.holds;
+      meets = meets c w.passed tile h.back said;
+    }
+
+-- a property of the current tile and the tiles after it
+abbrev pub Next : WindowState → (List Tile → Type 0) → Tile → Type 0
+Next c P tile = Turn c (λ passed rest. P rest) tile
 
 -- the tile ahead, and the tiles after it
 pub left_next : (c : WindowState) (ahead : Option Tile) (P : List Tile → Type 0) → Left c ahead P → (tile : Tile)
     → ahead ≡ Some tile → Next c P tile
-left_next c ahead P l tile is =
-    let h = first_here tile ahead l.rest is l.here in
-    let said : EncodesTiles c (l.passed ++ (tile ∷ h.back)) =
-    subst (λ (ts : List Tile). EncodesTiles c (l.passed ++ ts)) h.list l.said in
-    record {
-      passed = l.passed;
-      back = h.back;
-      said = said;
-      holds = subst P h.list l.holds;
-      meets = meets c l.passed tile h.back said;
-    }
+left_next c ahead P l tile is = turn c (λ passed rest. P rest) ahead l tile is
 
 -- the walk continues with the next tile
 pub left_goes_on : (c : WindowState) (P Q : List Tile → Type 0) (tile : Tile) → (n : Next c P tile)

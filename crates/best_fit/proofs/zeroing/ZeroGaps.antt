@@ -1,10 +1,10 @@
 -- The free bytes of gaps made zero, one gap after the other.
 use Rattle.best_fit.proofs.Common.{◌≡◌, refl, sym, ap, subst, ◌∙◌, ℕ, ◌+◌, ◌-◌, ◌/◌, ◌%◌, ◌<◌, ◌≤◌, ◌⊎◌, inl, inr}
-use Rattle.best_fit.proofs.Common.{true, false, List, [], ◌∷◌, ◌++◌, length, append_assoc, arith, ◌==◌, Option, Some}
-use Rattle.best_fit.proofs.Common.{None, is_some, replicate, both_ways, AllByRecursion, append-nil, none-some, Memory}
+use Rattle.best_fit.proofs.Common.{true, false, List, [], ◌∷◌, ◌++◌, length, append_assoc, arith, ◌==◌, Some}
+use Rattle.best_fit.proofs.Common.{None, is_some, replicate, AllByRecursion, append-nil, none-some, Memory}
 use Rattle.best_fit.proofs.Common.{WindowState, SameBytesExcept, SameSurroundings, bytes_of, patched, word_at}
 use Rattle.best_fit.proofs.Common.{with_bytes, length-patched}
-use Rattle.best_fit.proofs.Common.{SameBytes-word, Role, Tile, current, first_in, next_in, HasTileAt, EncodesTiles}
+use Rattle.best_fit.proofs.Common.{SameBytes-word, Role, Tile, current, EncodesTiles}
 use Rattle.best_fit.proofs.Common.{one_tile_at_an_offset, payload_may_change, target_of, Gap, cells_of, IsHeap}
 use Rattle.best_fit.proofs.Common.{ZeroesFree, SameBlock, gap_of, gaps_of, tiles_in}
 use Rattle.std.proofs.lemmas.List.{length-replicate}
@@ -15,11 +15,10 @@ use Rattle.best_fit.proofs.tags.RowParts.{row_back, row_end, row_front, row_reac
 use Rattle.best_fit.proofs.gaps.Nodes.{Disjoint, NodeAt, row_disjoint, row_lies}
 use Rattle.best_fit.proofs.gaps.Setters.{cell_stays}
 use Rattle.best_fit.proofs.tags.TagsAndLiveSet.{heap-gaps, heap-says, legal_size, said_row}
-use Rattle.best_fit.proofs.tags.TileRows.{Row, Use, unused, used, use_cases, extent_of, gaps_of-free, gaps_of-used}
-use Rattle.best_fit.proofs.tags.TileRows.{gaps_of-append}
+use Rattle.best_fit.proofs.tags.TileRows.{Row, unused, used, use_cases, extent_of, gaps_of-free, gaps_of-used}
 use Rattle.best_fit.proofs.tags.UnchangedTags.{all_joined, In, all_used}
-use Rattle.best_fit.proofs.tile_walk.Walk.{Meets, first_here, live_extents, meets, next_here, next_nearer, none_left}
-use Rattle.best_fit.proofs.tile_walk.Walk.{passed_on, to_go}
+use Rattle.best_fit.proofs.free_tree.WalkTurns.{Ended, Passed, free_if, gaps_past_block, gaps_past_gap, passed_in}
+use Rattle.best_fit.proofs.tile_walk.Walk.{Turn, live_extents}
 use Rattle.best_fit.proofs.tags.Writes.{free_stays, same_live}
 
 -- the free bytes of a gap are 0
@@ -29,116 +28,45 @@ IsZero m g = AreZero m (g.offset + 32) (g.offset + g.len)
 -- the gaps among the tiles that are passed are zero, and nothing else has changed
 pub record Zeroed (old new : WindowState) (passed rest : List Tile) : Type 0 where
   pub list : tiles_in old ≡ passed ++ rest
-  pub said : EncodesTiles new (passed ++ rest)
   pub size : length new.bytes ≡ length old.bytes
   pub place : SameSurroundings old new
   pub same : (k : ℕ) → AllByRecursion (IsBesideFree current k) (gaps_of passed)
       → bytes_of new.bytes k ≡ bytes_of old.bytes k
   pub zero : AllByRecursion (IsZero (bytes_of new.bytes)) (gaps_of passed)
 
--- the tile at hand is the first of the others
-pub record Zeroing (old new : WindowState) (ahead : Option Tile) : Type 0 where
-  pub passed : List Tile
-  pub rest : List Tile
-  pub zeroed : Zeroed old new passed rest
-  pub here : ahead ≡ first_in rest
-
 -- before the first tile nothing is zeroed
-pub zeroing_start : (old : WindowState) → IsHeap current old.bytes → (ahead : Option Tile)
-    → ((ts : List Tile) → EncodesTiles old ts → ahead ≡ first_in ts) → Zeroing old old ahead
-zeroing_start old heap ahead is =
-    let said = (heap-says old heap).said in
-    record {
-      passed = [];
-      rest = tiles_in old;
-      zeroed = record {
-        list = refl;
-        said = said;
-        size = refl;
-        place = record { before = refl; after = refl };
-        same = λ k h. refl;
-        zero = tt;
-      };
-      here = is (tiles_in old) said;
-    }
-
--- the tile that the walk has reached
-pub record Turn (old new : WindowState) (tile : Tile) : Type 0 where
-  pub passed : List Tile
-  pub back : List Tile
-  pub zeroed : Zeroed old new passed (tile ∷ back)
-  pub meets : Meets new tile
-
--- a tile ahead: one turn of the walk
-pub zeroing_turn : (old new : WindowState) (ahead : Option Tile) → (z : Zeroing old new ahead) → (tile : Tile)
-    → ahead ≡ Some tile → Turn old new tile
-zeroing_turn old new ahead z tile is =
-    let h = first_here tile ahead z.rest is z.here in
-    let zeroed : Zeroed old new z.passed (tile ∷ h.back) = subst (Zeroed old new z.passed) h.list z.zeroed in
-    record { passed = z.passed; back = h.back; zeroed = zeroed; meets = meets new z.passed tile h.back zeroed.said }
+pub zeroed_start : (old : WindowState) → Zeroed old old [] (tiles_in old)
+zeroed_start old = record {
+  list = refl;
+  size = refl;
+  place = record { before = refl; after = refl };
+  same = λ k h. refl;
+  zero = tt;
+}
 
 all_split : (P : Gap → Type 0) (xs ys : List Gap) → AllByRecursion P (xs ++ ys)
     → AllByRecursion P xs × AllByRecursion P ys
 all_split P [] ys h = (tt, h)
 all_split P (x ∷ xs) ys h = let rest = all_split P xs ys h.1 in ((h.0, rest.0), rest.1)
 
--- the tile is passed: the walk continues with the tiles after it
-pub record Passed (old new : WindowState) (tile : Tile) : Type 0 where
-  pub passed : List Tile
-  pub back : List Tile
-  pub said : EncodesTiles new (passed ++ (tile ∷ back))
-  pub zeroed : Zeroed old new (passed ++ (tile ∷ [])) back
-
--- the passed tile is at its offset
-pub passed_has : (old new : WindowState) (tile : Tile) → Passed old new tile → HasTileAt new tile.offset
-passed_has old new tile p = (meets new p.passed tile p.back p.said).has
-
--- the walk continues after the passed tile
-pub passed_goes_on : (old new : WindowState) (tile : Tile) → Passed old new tile → (next : Option Tile)
-    → ((ts : List Tile) → EncodesTiles new ts → next ≡ next_in ts tile.offset)
-    → Zeroing old new next
-passed_goes_on old new tile p next is =
-    record {
-      passed = p.passed ++ (tile ∷ []);
-      rest = p.back;
-      zeroed = p.zeroed;
-      here = next_here new p.passed tile p.back p.said next is;
-    }
-
--- the walk comes closer to the end
-pub passed_nearer : (old new : WindowState) (tile : Tile) → Passed old new tile → (ahead next : Option Tile)
-    → ahead ≡ Some tile
-    → ((ts : List Tile) → EncodesTiles new ts → next ≡ next_in ts tile.offset) → to_go (length old.bytes) next
-    < to_go (length old.bytes) ahead
-passed_nearer old new tile p ahead next here is =
-    subst (λ (o : Option Tile). to_go (length old.bytes) next < to_go (length old.bytes) o) (sym here)
-    (subst (λ (n : ℕ). to_go n next < to_go n (Some tile)) p.zeroed.size
-    (next_nearer new p.passed tile p.back p.said next (next_here new p.passed tile p.back p.said next is)))
-
 -- a block is passed as it is
-pub zeroing_used : (old new next : WindowState) (tile : Tile) (t : Turn old new tile) → is_some tile.use_of ≡ true
-    → next ≡ new → Passed old next tile
+pub zeroing_used : (old new next : WindowState) (tile : Tile) → Turn new (Zeroed old new) tile
+    → is_some tile.use_of ≡ true → next ≡ new → Passed next (Zeroed old next) tile.offset
 zeroing_used old new next tile t some e =
-    let z = t.zeroed in
-    let P : WindowState → Type 0 = λ (c : WindowState). Passed old c tile in
-    subst P (sym e) (record {
+    let z = t.holds in
+    let gaps = gaps_past_block t.passed tile some in
+    passed_in (λ (c : WindowState). Zeroed old c) tile.offset new next e (record {
       passed = t.passed;
+      tile = tile;
       back = t.back;
-      said = z.said;
-      zeroed = record {
+      said = t.said;
+      offset = refl;
+      holds = record {
         list = z.list ∙ sym (append_assoc t.passed (tile ∷ []) t.back);
-        said = passed_on new t.passed tile t.back z.said;
         size = z.size;
         place = z.place;
-        same = λ k h. z.same k (all_split (IsBesideFree current k) (gaps_of t.passed) (gaps_of (tile ∷ []))
-            (subst (AllByRecursion (IsBesideFree current k)) (gaps_of-append t.passed (tile ∷ [])) h)).0;
-        zero = elim (use_cases tile) [
-          | unused f ↦ absurd (both_ways (is_some tile.use_of) (ap is_some f) some)
-          | used role f ↦ subst (AllByRecursion (IsZero (bytes_of new.bytes)))
-              (sym (gaps_of-append t.passed (tile ∷ [])
-              ∙ ap (λ gs. gaps_of t.passed ++ gs) (gaps_of-used tile [] role f)
-              ∙ append-nil (gaps_of t.passed))) z.zero
-        ];
+        same = λ k h. z.same k (subst (AllByRecursion (IsBesideFree current k)) gaps h);
+        zero = subst (AllByRecursion (IsZero (bytes_of new.bytes))) (sym gaps) z.zero;
       };
     })
 
@@ -165,46 +93,42 @@ zero_kept m m' at (t ∷ ts) end from n r l same zero =
           subst (AllByRecursion (IsZero m')) (sym (gaps_of-free t ts e)) both
     ]
 
-unused_if : (t : Tile) → is_some t.use_of ≡ false → Use t → t.use_of ≡ None
-unused_if t none (unused e) = e
-unused_if t none (used role e) = absurd (both_ways (is_some t.use_of) none (ap is_some e))
-
 -- a gap is made zero and passed
-pub zeroing_free : (old new next : WindowState) (tile : Tile) (t : Turn old new tile) → is_some tile.use_of ≡ false
-    → next ≡ with_bytes new (patched new.bytes (tile.offset + 32) (replicate (tile.len - 32) 0)) → Passed old next tile
+pub zeroing_free : (old new next : WindowState) (tile : Tile) (t : Turn new (Zeroed old new) tile)
+    → is_some tile.use_of ≡ false
+    → next ≡ with_bytes new (patched new.bytes (tile.offset + 32) (replicate (tile.len - 32) 0))
+    → Passed next (Zeroed old next) tile.offset
 unfolding current
 zeroing_free old new next tile t none e =
-    let z = t.zeroed in let at = tile.offset in let n = tile.len - 32 in
+    let z = t.holds in let at = tile.offset in let n = tile.len - 32 in
     let out : WindowState = with_bytes new (patched new.bytes (tile.offset + 32) (replicate (tile.len - 32) 0)) in
     let long = t.meets.long in let within = t.meets.within in
-    let least = (legal_size (length new.bytes) z.said.size).low in
+    let least = (legal_size (length new.bytes) t.said.size).low in
     let inside : at + 32 + n ≤ length new.bytes = omega arith in
     let only = filled-SameBytesExcept new.bytes (at + 32) n 0 inside in
     let size : length out.bytes ≡ length new.bytes = length-patched new.bytes (at + 32) (replicate n 0)
     (omega (arith, length-replicate {A = ℕ} n 0)) in
-    let free = unused_if tile none (use_cases tile) in
-    let row = said_row new (t.passed ++ (tile ∷ t.back)) z.said in
+    let row = said_row new (t.passed ++ (tile ∷ t.back)) t.said in
     let front = row_front 128 t.passed (tile ∷ t.back) (length new.bytes - 16) row in
     let ends = (row_back 128 t.passed (tile ∷ t.back) (length new.bytes - 16) row).0 in
-    let stands = one_tile_at_an_offset new t.passed tile t.back z.said in
+    let stands = one_tile_at_an_offset new t.passed tile t.back t.said in
     let says : EncodesTiles out (t.passed ++ (tile ∷ t.back)) = payload_may_change new out (t.passed ++ (tile ∷ t.back))
-    at tile z.said stands size (at + 32) n (omega arith) (omega arith) only in
+    at tile t.said stands size (at + 32) n (omega arith) (omega arith) only in
     let zero_here = filled-AreZero new.bytes (at + 32) n inside in
     let here : AllByRecursion (IsZero (bytes_of out.bytes)) (gap_of tile ∷ []) =
     (record { at = λ k a b. zero_here.at k (omega arith) (omega arith) }, tt) in
     let zeros = all_joined (IsZero (bytes_of out.bytes)) (gaps_of t.passed) (gap_of tile ∷ [])
     (zero_kept (bytes_of new.bytes) (bytes_of out.bytes) 128 t.passed (row_end 128 t.passed) (at + 32) n front
     (omega arith) only z.zero) here in
-    let gaps : gaps_of (t.passed ++ (tile ∷ [])) ≡ gaps_of t.passed ++ (gap_of tile ∷ []) =
-    gaps_of-append t.passed (tile ∷ []) ∙ ap (λ (gs : List Gap). gaps_of t.passed ++ gs) (gaps_of-free tile [] free) in
-    let P : WindowState → Type 0 = λ (c : WindowState). Passed old c tile in
-    subst P (sym e) (record {
+    let gaps = gaps_past_gap t.passed tile (free_if tile none) in
+    passed_in (λ (c : WindowState). Zeroed old c) tile.offset out next e (record {
       passed = t.passed;
+      tile = tile;
       back = t.back;
       said = says;
-      zeroed = record {
+      offset = refl;
+      holds = record {
         list = z.list ∙ sym (append_assoc t.passed (tile ∷ []) t.back);
-        said = passed_on out t.passed tile t.back says;
         size = size ∙ z.size;
         place = record { before = z.place.before; after = z.place.after };
         same = λ k h.
@@ -302,18 +226,17 @@ module _ (old new : WindowState) (heap : IsHeap current old.bytes) (same : (k : 
       (ap (λ w. w / 2 % 2 == 1) (word (m - 8) (omega arith) (omega arith)))
 
 -- at the end all gaps are zero
-pub zeroing_end : (old new : WindowState) (ahead : Option Tile) → IsHeap current old.bytes → Zeroing old new ahead
-    → ahead ≡ None → ZeroesFree current old new
+pub zeroing_end : (old new : WindowState) → IsHeap current old.bytes → Ended new (Zeroed old new)
+    → ZeroesFree current old new
 unfolding current
-zeroing_end old new ahead heap w end =
-    let z = w.zeroed in
-    let none = none_left w.rest (sym end ∙ w.here) in
-    let all : tiles_in old ≡ w.passed = z.list ∙ ap (λ (ts : List Tile). w.passed ++ ts) none ∙ append-nil w.passed in
+zeroing_end old new heap w =
+    let z = w.holds in
+    let all : tiles_in old ≡ w.tiles = z.list ∙ append-nil w.tiles in
     let same : (k : ℕ) → AllByRecursion (IsBesideFree current k) (gaps_of (tiles_in old))
     → bytes_of new.bytes k ≡ bytes_of old.bytes k =
     λ k h. z.same k (subst (λ (ts : List Tile). AllByRecursion (IsBesideFree current k) (gaps_of ts)) all h) in
     record {
-      live = same_live old new heap (subst (EncodesTiles new) (sym z.list) z.said) z.size
+      live = same_live old new heap (subst (EncodesTiles new) (sym all) w.said) z.size
           (free_stays old new heap (ap (target_of 24) (header_word old new heap same)) (gap_cell old new heap same));
       keeps = record {
         place = z.place;

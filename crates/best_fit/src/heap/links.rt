@@ -1,10 +1,9 @@
 //! Links in the header and in blocks, and the colours of node blocks.
-ghost use Rattle.std.specs.Prelude.{◌≡◌, ◌≢◌, ◌+◌, ◌*◌, ◌%◌, ◌<◌, ◌≤◌, IfSome, IsTrue, length};
-ghost use Rattle.raw_region.specs.Memory.{bytes_of, patched};
-ghost use Rattle.raw_region.specs.Regions.{with_bytes};
+ghost use Rattle.std.specs.Prelude.{◌≡◌, ◌≢◌, ◌+◌, ◌*◌, ◌%◌, ◌<◌, IfSome, IsTrue};
+ghost use Rattle.raw_region.specs.Memory.{bytes_of};
 ghost use Rattle.offset_link.specs.Link.{link_at};
 ghost use Rattle.offset_link.specs.Moves.{StaysInside, moved_to};
-ghost use Rattle.offset_link.specs.Relinked.{AllLinksLead, AreValidLinks, KeepTargets, relinked};
+ghost use Rattle.offset_link.specs.Relinked.{AllLinksLead, AreValidLinks, KeepTargets};
 ghost use Rattle.raw_region.specs.Format.{current};
 ghost use Rattle.best_fit.specs.FreeTree.{is_red};
 ghost use Rattle.best_fit.specs.Heap.{ChangesBytes, Recolours, has_room, is_live_in, is_node_in, live_of};
@@ -13,7 +12,6 @@ use crate::heap::Heap;
 use crate::heap::nodes::{FREE_TREE_ROOT, set_link};
 use block_tags::{HEADER_LEN, TAG_LEN, set_red, tile_at};
 use offset_link::{Distance, load, shift, shift_non_null};
-use raw_region::Window;
 
 impl Heap {
     /// Returns the target of the header's link at `at`: a multiple of 8 below 128, and not 24. `None` if the link is
@@ -70,7 +68,12 @@ impl Heap {
         ensures changes { ChangesBytes current self.old self.new (to + to_at) (8 * n) }
         ensures lead { KeepTargets (bytes_of self.old.bytes) (bytes_of self.new.bytes) (from + from_at) (to + to_at) n }
     {
-        move_to(&mut self.gaps.window, from + from_at, to + to_at, n);
+        shift(
+            &mut self.gaps.window,
+            from + from_at,
+            n,
+            way(from + from_at, to + to_at),
+        );
     }
 
     /// Copies links as `shift_links` does, if none of them is null, in about half the time.
@@ -83,7 +86,12 @@ impl Heap {
         ensures changes { ChangesBytes current self.old self.new (to + to_at) (8 * n) }
         ensures lead { KeepTargets (bytes_of self.old.bytes) (bytes_of self.new.bytes) (from + from_at) (to + to_at) n }
     {
-        move_non_null_to(&mut self.gaps.window, from + from_at, to + to_at, n);
+        shift_non_null(
+            &mut self.gaps.window,
+            from + from_at,
+            n,
+            way(from + from_at, to + to_at),
+        );
     }
 
     /// Returns true if a block is red. Only a node block can be red.
@@ -101,34 +109,6 @@ impl Heap {
     {
         set_red(&mut self.gaps.window, handle - TAG_LEN, red);
     }
-}
-
-/// Copies the `n` links from `source` on to `target`; each keeps its target.
-fn move_to(window: &mut Window, source: u64, target: u64, n: u64)
-    requires source_aligned { source % 8 ≡ 0 }
-    requires target_aligned { target % 8 ≡ 0 }
-    requires source { source + 8 * n ≤ length window.old.bytes }
-    requires target { target + 8 * n ≤ length window.old.bytes }
-    requires links { AreValidLinks (bytes_of window.old.bytes) source n }
-    ensures lead { KeepTargets (bytes_of window.old.bytes) (bytes_of window.new.bytes) source target n }
-    ensures output { window.new ≡ with_bytes window.old
-        (patched window.old.bytes target (relinked (bytes_of window.old.bytes) source target n)) }
-{
-    shift(window, source, n, way(source, target));
-}
-
-/// Copies links as `move_to` does, if none of them is null.
-fn move_non_null_to(window: &mut Window, source: u64, target: u64, n: u64)
-    requires source_aligned { source % 8 ≡ 0 }
-    requires target_aligned { target % 8 ≡ 0 }
-    requires source { source + 8 * n ≤ length window.old.bytes }
-    requires target { target + 8 * n ≤ length window.old.bytes }
-    requires links { AllLinksLead (bytes_of window.old.bytes) source n }
-    ensures lead { KeepTargets (bytes_of window.old.bytes) (bytes_of window.new.bytes) source target n }
-    ensures output { window.new ≡ with_bytes window.old
-        (patched window.old.bytes target (relinked (bytes_of window.old.bytes) source target n)) }
-{
-    shift_non_null(window, source, n, way(source, target));
 }
 
 /// Returns the distance and the direction from one link to another.

@@ -1,5 +1,5 @@
 -- The tile before is in the list, and this tile comes after it.
-use Rattle.best_fit.proofs.Common.{◌≡◌, sym, subst, ◌∙◌, HasTileAt, SameExceptTags, EncodesTiles, previous_in}
+use Rattle.best_fit.proofs.Common.{sym, subst, ◌∙◌, HasTileAt, SameExceptTags, EncodesTiles, previous_in}
 use Rattle.best_fit.proofs.tags.TileCuts.{read_gap, gap_after_previous, joined_after, not_joined, tile_before}
 use Rattle.best_fit.proofs.tags.Writes.{tile_in_list}
 use Rattle.best_fit.proofs.deallocation.coalesce_previous.Goals as goal

@@ -3,9 +3,9 @@ use Rattle.best_fit.proofs.Common.{ap, ◌∙◌, not, arith, length, WindowStat
 use Rattle.best_fit.proofs.free_tree.EmptyTree.{Cleared, cleared_block, cleared_gap, cleared_start, emptied}
 use Rattle.best_fit.proofs.free_tree.EmptyTree.{emptied_rest}
 use Rattle.best_fit.proofs.free_tree.EmptyTree.{link_place, tagged_says}
-use Rattle.best_fit.proofs.free_tree.WalkTurns.{Passed, passed_goes_on, passed_has, passed_in, passed_nearer, turn}
-use Rattle.best_fit.proofs.free_tree.WalkTurns.{walk_end}
+use Rattle.best_fit.proofs.free_tree.WalkTurns.{Passed, passed_goes_on, passed_has, passed_in, passed_nearer, walk_end}
 use Rattle.best_fit.proofs.free_tree.WalkTurns.{walk_start}
+use Rattle.best_fit.proofs.tile_walk.Walk.{turn}
 use Rattle.best_fit.proofs.heap.free_tree_build.clear_gaps.Goals.{then-is_none, else-is_none}
 use Rattle.best_fit.proofs.heap.free_tree_build.clear_gaps.Goals as goal
 

@@ -4,9 +4,9 @@ use Rattle.best_fit.proofs.Common.{tiles_in}
 use Rattle.best_fit.proofs.free_tree.Rebuild.{HasPlanted, next_gap, planted_all, planted_block, planted_gap}
 use Rattle.best_fit.proofs.free_tree.Rebuild.{planted_start}
 use Rattle.best_fit.proofs.gaps.LinksOnly.{tree_says}
-use Rattle.best_fit.proofs.free_tree.WalkTurns.{Passed, passed_goes_on, passed_has, passed_in, passed_nearer, turn}
-use Rattle.best_fit.proofs.free_tree.WalkTurns.{walk_end}
+use Rattle.best_fit.proofs.free_tree.WalkTurns.{Passed, passed_goes_on, passed_has, passed_in, passed_nearer, walk_end}
 use Rattle.best_fit.proofs.free_tree.WalkTurns.{walk_start}
+use Rattle.best_fit.proofs.tile_walk.Walk.{turn}
 use Rattle.best_fit.proofs.heap.free_tree_build.plant_gaps.Goals.{then-is_none, else-is_none}
 use Rattle.best_fit.proofs.heap.free_tree_build.plant_gaps.Goals as goal
 

@@ -1,7 +1,7 @@
 -- The length is that of the tile before the payload.
-use Rattle.best_fit.proofs.Common.{◌≡◌, sym, ap, ◌∙◌, ◌-◌, arith, Tile, gaps_in, len_in, is_gap_node-GapNode}
+use Rattle.best_fit.proofs.Common.{◌-◌, ap, arith, is_gap_node-GapNode}
 use Rattle.best_fit.specs.declared.heap.nodes.GapProbe.{GapProbe}
-use Rattle.best_fit.proofs.gaps.Nodes.{NodeAt, node_at, node_len, node_read, node_tile}
+use Rattle.best_fit.proofs.gaps.Nodes.{NodeAt, len_read, node_at, node_tile}
 use Rattle.best_fit.proofs.heap.touch_counter.probe_of.Goals.{Start}
 use Rattle.best_fit.proofs.heap.touch_counter.probe_of.Goals as goal
 
@@ -22,5 +22,4 @@ returns c =
     let w = c.args.gaps.now.window in
     let d = node_at w c.args.node (is_gap_node-GapNode w c.args.node c.requires) in
     ap (λ k. let p : GapProbe = record { len = k; from = c.args.node } in p)
-    (ap (λ (t : Tile). t.len) (node_read w c.args.node (c.args.node - 16) d (omega arith) c.tile_at-len.result
-    c.tile_at-len.ensures) ∙ sym (node_len w c.args.node d))
+    (len_read w c.args.node d c.tile_at-len.result c.tile_at-len.ensures)

@@ -1,7 +1,7 @@
 -- The length is that of the tile.
-use Rattle.best_fit.proofs.Common.{◌≡◌, ◌-◌, refl, sym, ap, ◌∙◌, arith, Tile, gaps_in, len_in, is_gap_node-GapNode}
+use Rattle.best_fit.proofs.Common.{◌≡◌, ◌-◌, refl, arith, gaps_in, len_in, is_gap_node-GapNode}
 use Rattle.best_fit.proofs.gaps.Comparisons.{as_long, longer, shorter}
-use Rattle.best_fit.proofs.gaps.Nodes.{NodeAt, node_at, node_tile, node_read, node_len}
+use Rattle.best_fit.proofs.gaps.Nodes.{NodeAt, len_read, node_at, node_tile}
 use Rattle.best_fit.proofs.heap.nodes.GapTreeNodes.before_probe.Goals as goal
 use Rattle.best_fit.proofs.heap.nodes.GapTreeNodes.before_probe.Goals.{After-tile_at-len, Start}
 
@@ -19,9 +19,9 @@ tile_at-len-requires c =
 -- the length that is read is the gap's
 read : (c : After-tile_at-len) → c.tile_at-len.result.len ≡ len_in (gaps_in c.args.self.now.window) c.args.node
 read c =
-    let w = c.args.self.now.window in let d = node_at w c.args.node (is_gap_node-GapNode w c.args.node c.requires) in
-    ap (λ (t : Tile). t.len) (node_read w c.args.node (c.args.node - 16) d (omega arith) c.tile_at-len.result
-    c.tile_at-len.ensures) ∙ sym (node_len w c.args.node d)
+    let w = c.args.self.now.window in
+    len_read w c.args.node (node_at w c.args.node (is_gap_node-GapNode w c.args.node c.requires)) c.tile_at-len.result
+    c.tile_at-len.ensures
 
 pub returns-then-len-sought : goal.returns-then-len-sought
 returns-then-len-sought c =

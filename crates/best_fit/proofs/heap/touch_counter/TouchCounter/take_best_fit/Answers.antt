@@ -1,5 +1,5 @@
 -- The first gap of the tree that is long enough is the least such gap, and it is in the tree.
-use Rattle.best_fit.proofs.Common.{◌≡◌, sym, subst, ◌∙◌, ℕ, arith, Option, Some, IfSome, List, Gap, gaps_in, node_of}
+use Rattle.best_fit.proofs.Common.{◌≡◌, sym, subst, ◌∙◌, ℕ, arith, Option, IfSome, List, Gap, gaps_in, node_of}
 use Rattle.best_fit.proofs.Common.{same_Some, option_map, filter, least, is_long, HasGapTree, CanBeginRemoval}
 use Rattle.best_fit.proofs.allocation.LeastGap.{least_listed}
 use Rattle.best_fit.proofs.gaps.Order.{first_is_least}

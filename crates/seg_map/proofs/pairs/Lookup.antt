@@ -97,8 +97,10 @@ module _ {K V : Type 0} {k : Plain K} {v : Plain V} {now c : WindowState} {at : 
       → keys_in k own now ≡ keys_in k (nodes_of s.map.tree.tree) c
   keys_are ps s = λ i. keys_in k (o.nodes ps s i) (o.same i)
 
-  few : {taken : ℕ} → Asked (λ t. taken ≤ 2 * bits (length (nodes_of t) + 1)) → SearchSteps k v c.bytes at 0 0 taken
-  few {taken} most = λ ps s.
+  -- the steps of a search, by the number of pairs
+  pub few_searched : {taken : ℕ} → Asked (λ t. taken ≤ 2 * bits (length (nodes_of t) + 1))
+      → SearchSteps k v c.bytes at 0 0 taken
+  few_searched {taken} most = λ ps s.
       let m = most s.map.tree.tree (o.tree ps s).tree in
       let n = ap (λ n. bits (n + 1)) (ap length s.map.tree.lists ∙ length-map ps pair_node) in omega arith
 
@@ -115,7 +117,7 @@ module _ {K V : Type 0} {k : Plain K} {v : Plain V} {now c : WindowState} {at : 
     node = λ ps s. is s.map.tree.tree (o.tree ps s).tree ∙ ap node s.map.tree.lists
         ∙ nodes ps (each ps (o.pairs ps s) (λ p r. r.key));
     exact = exact;
-    most = few most;
+    most = few_searched most;
   }
 
   module _ (past : Bool) (key : K) {taken : ℕ} (exact : Asked (λ t. taken ≡ path_length (ahead past key) t))
@@ -151,11 +153,6 @@ module _ {K V : Type 0} {k : Plain K} {v : Plain V} {now c : WindowState} {at : 
       → (ps : List (Pair K V)) (s : HoldsMap k v c.bytes at.handle at.at ps) → start ≡ entry_in k c key s.map.tree.tree
   entry_is key entry ps s = entry s.map.tree.tree (o.tree ps s).tree
       ∙ ap (λ ks. insert_point_of (stands_before k.order ks false key) s.map.tree.tree) (keys_are ps s)
-
-  -- the steps of a search, by the number of pairs
-  pub few_searched : {taken : ℕ} → Asked (λ t. taken ≤ 2 * bits (length (nodes_of t) + 1))
-      → SearchSteps k v c.bytes at 0 0 taken
-  few_searched most = few most
 
   -- a search has the map's nodes, and the map's state
   nodes_are : (ps : List (Pair K V)) (s : HoldsMap k v c.bytes at.handle at.at ps)

@@ -113,8 +113,8 @@ pub fn insert_at<N: NodesMut>(
 ) -> TreeChange
     requires root { leads (N.is_node nodes.old) root ≡ true }
     requires node { N.is_node nodes.old node ≡ true }
-    // The node must precede or follow each node of the tree. `entry` must be none or the entry that `find_entry` returns
-    // for the node.
+    // The node must precede or follow each node of the tree. `entry` must be none or the entry that `find_entry`
+    // returns for the node.
     requires tree { (t : Tree) × IsSearchTree (N.order nodes.old) (N.cells nodes.old) root t
         × IsTrue (is_ordered_with (N.order nodes.old) node (nodes_of t))
         × IfSome entry (λ n. insert_point_of (λ m. not (N.order nodes.old node m)) t ≡ Some n) }

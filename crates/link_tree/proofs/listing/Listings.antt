@@ -14,8 +14,8 @@ use Rattle.link_tree.proofs.listing.Rows.{placed_length}
 
 -- ---- a tree at a node
 
--- the left and the right subtree of a node, whose links are read in the state `now`; they are ordered and have one level
--- less. If the node precedes a probe, so do all of the left one, and if it does not, none of the right one does
+-- the left and the right subtree of a node, whose links are read in the state `now`; they are ordered and have one
+-- level less. If the node precedes a probe, so do all of the left one, and if it does not, none of the right one does
 pub record AreParts {S : Type 0} (good : S → ℕ → Bool) (order : S → ℕ → ℕ → Bool) (cells : S → ℕ → Cell)
     (before : ℕ → Bool) (s now : S) (n levels : ℕ) (left_link right_link : Option ℕ) (t : Tree) : Type 0 where
   pub left : Tree

@@ -1,7 +1,7 @@
 -- Each turn of the walk passes one tile.
 use Rattle.best_fit.proofs.Common.{sym, ◌+◌, ◌-◌, subst, arith, Option, ne_eqb, Tile}
-use Rattle.best_fit.proofs.tile_walk.Walk.{Left, Next, StillNames, left_start, left_next, left_goes_on, left_nearer, left_end}
-use Rattle.best_fit.proofs.tile_walk.Walk.{names_passed, names_start, window_tiled}
+use Rattle.best_fit.proofs.tile_walk.Walk.{Left, Next, StillNames, left_start, left_next, left_goes_on, left_nearer}
+use Rattle.best_fit.proofs.tile_walk.Walk.{left_end, names_passed, names_start, window_tiled}
 use Rattle.best_fit.proofs.tile_walk.Hints.{left_from, names_told, nearest_block}
 use Rattle.best_fit.proofs.tags.Writes.{block_tile}
 use Rattle.best_fit.proofs.tile_walk.is_reached.Goals.{In-Some-ahead, in-Some, in-None}

@@ -26,8 +26,9 @@ parts g t c now left_link u now_same left a =
     parts_sorted g.N.Nodes.is_node g.N.Nodes.order g.N.Nodes.cells (g.N.Nodes.before s c.args.probe.now) s now n
     c.args.levels c.args.link left_link _ u (g.met.N.Nodes.agrees s c.args.probe.now)
     (g.met.N.Nodes.left_closed s n node) (g.met.N.Nodes.right_closed s n node) c.in-Some.is
-    (now_same ∙ same g t c) (left ∙ ap (λ (x : g.row.N.Denot). (g.N.Nodes.cells x n).left) (same g t c)) (c.right-right.ensures.value
-    ∙ ap (λ (x : g.row.N.Denot). (g.N.Nodes.cells x n).right) c.before_probe-before.ensures.nodes) a
+    (now_same ∙ same g t c) (left ∙ ap (λ (x : g.row.N.Denot). (g.N.Nodes.cells x n).left) (same g t c))
+    (c.right-right.ensures.value ∙ ap (λ (x : g.row.N.Denot). (g.N.Nodes.cells x n).right)
+    c.before_probe-before.ensures.nodes) a
 
 few : (g : Over) (t : ℕ) (c : After-right-right g t) → c.right-right.new.self.steps ≤ c.args.visits.now.steps + 1
 few g t c =

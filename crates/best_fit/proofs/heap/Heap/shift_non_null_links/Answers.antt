@@ -7,32 +7,34 @@ use Rattle.best_fit.proofs.heap.Heap.shift_non_null_links.Goals.{After-shift_non
 use Rattle.best_fit.proofs.heap.Heap.shift_non_null_links.Goals as goal
 
 pub overflow_add-from : goal.overflow_add-from
-overflow_add-from c = let s = spot c.args.self.now c.self.inside.gaps.window c.args.from c.args.from_at (8 * c.args.n) (cc)
-    c.self.invariant.heap c.requires.source in let i = s.inside in let z = s.size in omega arith
+overflow_add-from c = let s = spot c.args.self.now c.self.inside.gaps.window c.args.from c.args.from_at (8 * c.args.n)
+    (cc) c.self.invariant.heap c.requires.source in let i = s.inside in let z = s.size in omega arith
 
 pub overflow_add-from-2 : goal.overflow_add-from-2
-overflow_add-from-2 c = let s = spot c.args.self.now c.self.inside.gaps.window c.args.from c.args.from_at (8 * c.args.n) (cc)
-    c.self.invariant.heap c.requires.source in let i = s.inside in let z = s.size in omega arith
+overflow_add-from-2 c = let s = spot c.args.self.now c.self.inside.gaps.window c.args.from c.args.from_at (8 * c.args.n)
+    (cc) c.self.invariant.heap c.requires.source in let i = s.inside in let z = s.size in omega arith
 
 pub overflow_add-to : goal.overflow_add-to
 overflow_add-to c = let s = spot c.args.self.now c.self.inside.gaps.window c.args.to c.args.to_at (8 * c.args.n) (cc)
     c.self.invariant.heap c.requires.target in let i = s.inside in let z = s.size in omega arith
 
 pub way-requires-clause-source_aligned : goal.way-requires-clause-source_aligned
-way-requires-clause-source_aligned c = let a = (spot c.args.self.now c.self.inside.gaps.window c.args.from c.args.from_at (8 * c.args.n) (cc)
-    c.self.invariant.heap c.requires.source).aligned in let f = c.requires.from_aligned in omega arith
+way-requires-clause-source_aligned c = let a = (spot c.args.self.now c.self.inside.gaps.window c.args.from
+    c.args.from_at (8 * c.args.n) (cc) c.self.invariant.heap c.requires.source).aligned in let f =
+    c.requires.from_aligned in omega arith
 
 pub way-requires-clause-target_aligned : goal.way-requires-clause-target_aligned
-way-requires-clause-target_aligned c = let a = (spot c.args.self.now c.self.inside.gaps.window c.args.to c.args.to_at (8 * c.args.n) (cc)
-    c.self.invariant.heap c.requires.target).aligned in let f = c.requires.to_aligned in omega arith
+way-requires-clause-target_aligned c = let a = (spot c.args.self.now c.self.inside.gaps.window c.args.to c.args.to_at (8
+    * c.args.n) (cc) c.self.invariant.heap c.requires.target).aligned in let f = c.requires.to_aligned in omega arith
 
 pub shift_non_null-requires-clause-aligned : goal.shift_non_null-requires-clause-aligned
-shift_non_null-requires-clause-aligned c = let a = (spot c.args.self.now c.self.inside.gaps.window c.args.from c.args.from_at (8 * c.args.n) (cc)
-    c.self.invariant.heap c.requires.source).aligned in let f = c.requires.from_aligned in omega arith
+shift_non_null-requires-clause-aligned c = let a = (spot c.args.self.now c.self.inside.gaps.window c.args.from
+    c.args.from_at (8 * c.args.n) (cc) c.self.invariant.heap c.requires.source).aligned in let f =
+    c.requires.from_aligned in omega arith
 
 pub shift_non_null-requires-clause-source : goal.shift_non_null-requires-clause-source
-shift_non_null-requires-clause-source c = (spot c.args.self.now c.self.inside.gaps.window c.args.from c.args.from_at (8 * c.args.n) (cc)
-    c.self.invariant.heap c.requires.source).inside
+shift_non_null-requires-clause-source c = (spot c.args.self.now c.self.inside.gaps.window c.args.from c.args.from_at (8
+    * c.args.n) (cc) c.self.invariant.heap c.requires.source).inside
 
 pub shift_non_null-requires-clause-target : goal.shift_non_null-requires-clause-target
 shift_non_null-requires-clause-target c =
@@ -40,11 +42,12 @@ shift_non_null-requires-clause-target c =
     (spot c.args.self.now c.self.inside.gaps.window c.args.to c.args.to_at (8 * c.args.n) (cc)
     c.self.invariant.heap c.requires.target).inside
 
-changed : (c : After-shift_non_null) → ChangesBytes current c.self.inside.gaps.window c.shift_non_null.new.w (c.args.to + c.args.to_at)
-    (8 * c.args.n)
+changed : (c : After-shift_non_null) → ChangesBytes current c.self.inside.gaps.window c.shift_non_null.new.w (c.args.to
+    + c.args.to_at) (8 * c.args.n)
 changed c = links_changed c.self.inside.gaps.window c.shift_non_null.new.w c.args.to c.args.to_at
-    (c.args.from + c.args.from_at) c.args.n _ c.self.invariant.heap (spot c.args.self.now c.self.inside.gaps.window c.args.to c.args.to_at (8 * c.args.n) (cc)
-    c.self.invariant.heap c.requires.target) c.way.ensures.result c.shift_non_null.ensures.output
+    (c.args.from + c.args.from_at) c.args.n _ c.self.invariant.heap (spot c.args.self.now c.self.inside.gaps.window
+    c.args.to c.args.to_at (8 * c.args.n) (cc) c.self.invariant.heap c.requires.target) c.way.ensures.result
+    c.shift_non_null.ensures.output
 
 pub invariant_of-self : goal.invariant_of-self
 invariant_of-self c = held-same c.self.inside.hints c.self.inside.gaps.window.bytes c.shift_non_null.new.w.bytes
@@ -53,8 +56,8 @@ invariant_of-self c = held-same c.self.inside.hints c.self.inside.gaps.window.by
 pub returns-clause-changes : goal.returns-clause-changes
 returns-clause-changes c =
     let e : c.args.self.now ≡ c.self.inside.gaps.window = cc in
-    subst (λ (v : WindowState). ChangesBytes current v c.shift_non_null.new.w (c.args.to + c.args.to_at) (8 * c.args.n)) (sym e)
-    (changed (goal.at.returns-clause-changes c).After-shift_non_null)
+    subst (λ (v : WindowState). ChangesBytes current v c.shift_non_null.new.w (c.args.to + c.args.to_at) (8 * c.args.n))
+    (sym e) (changed (goal.at.returns-clause-changes c).After-shift_non_null)
 
 pub returns-clause-lead : goal.returns-clause-lead
 returns-clause-lead c =

@@ -2,8 +2,7 @@
 -- of a command, by the kind of the object and by its literals.
 
 -- the facts about the object to change, and about the literals
-pub use Rattle.segment_manager.specs.containers.Changeable.{IsChangeable, IsElement, IsNoElement, IsChangeableObject}
-pub use Rattle.segment_manager.specs.containers.Changeable.{IsUnchangeable}
+pub use Rattle.segment_manager.specs.containers.Changeable.{IsChangeable, IsChangeableObject}
 pub use Rattle.segment_manager.proofs.containers.Changeable.{changeable, handle-to-change, reading-unchangeable}
 pub use Rattle.segment_manager.proofs.containers.Changeable.{says-kind, to-change}
 -- a command by its plan: one that fails, and one that changes nothing
@@ -15,7 +14,7 @@ pub use Rattle.segment_manager.proofs.objects.ElementCommands.{IsElements, IsTex
 pub use Rattle.segment_manager.proofs.objects.ElementCommands.{element-read, insert-element, no_value-element}
 pub use Rattle.segment_manager.proofs.objects.ElementCommands.{no_vector-element, push-element, unchangeable-element}
 pub use Rattle.segment_manager.proofs.objects.ElementCommands.{assign-unchangeable, erase-no_vector, erase-unchangeable}
-pub use Rattle.segment_manager.proofs.objects.ElementCommands.{pop-no_vector, pop-unchangeable, NoText, elements-either}
+pub use Rattle.segment_manager.proofs.objects.ElementCommands.{pop-no_vector, pop-unchangeable}
 pub use Rattle.segment_manager.proofs.objects.ElementCommands.{elements-told, no_text-element, set-map, set-no_text}
 pub use Rattle.segment_manager.proofs.objects.ElementCommands.{set-step, set-unchangeable}
 -- pairs put, looked up and erased

@@ -7,7 +7,7 @@ pub use Rattle.std.proofs.Common.{Greater, append-nil, append_assoc, if◌then�
 pub use Rattle.std.proofs.Common.{Ok, [], ap, pos, suc, sym, w64, ℕ, ℤ, ◌∙◌, ◌∷◌, ◌≡◌, ◌≢◌, ◌≤◌, ◌⊎◌}
 pub use Rattle.std.proofs.lemmas.Bool.{and_from, and_parts, and_right, cases_lt, cond-false, cond-true, eq-eqb}
 pub use Rattle.std.proofs.lemmas.Bool.{eqb-false, eqb-true, false≢true, le-leb, le-ltb, leb-true, lt-leb, lt-ltb}
-pub use Rattle.std.proofs.lemmas.Bool.{ltb-false, ltb-true, ne_eqb, or_cases, or_left, or_right}
+pub use Rattle.std.proofs.lemmas.Bool.{ltb-false, ltb-true, ne_eqb}
 pub use Rattle.std.proofs.lemmas.List.{flat_map_more, length-map, length-replicate, map-append, take-map, take_all}
 pub use Rattle.std.proofs.lemmas.Option.{none-some, same_Some, slice_get-get_or, slice_get-map, slice_get_past}
 pub use Rattle.std.proofs.{lemmas.Option.slice_get_within, Math.Nat.mul-le-mul_left, lemmas.Cmp.nat_list_cmp_total}
@@ -26,8 +26,8 @@ pub use Rattle.offset_link.specs.Link.{link_at}
 pub use Rattle.link_tree.specs.Tree.{Tree, fork, leaf, nodes_of}
 pub use Rattle.block_tags.specs.declared.tile.Role.TheVariants.{Index as IndexRole, Node, Object as ObjectRole, Storage}
 pub use Rattle.block_tags.specs.{Format.is_legal_size, Tiles.tiles_of, declared.tile.Role.Role, declared.tile.Tile.Tile}
-pub use Rattle.best_fit.proofs.Laws.{IsAlone, SameSpread, allocated-is_live, allocated-live, allocated-room}
-pub use Rattle.best_fit.proofs.Laws.{blocks-trans, changed-live, changed-room, found-new, inserted-append, keeps-refl}
+pub use Rattle.best_fit.proofs.Laws.{SameSpread, allocated-is_live, allocated-live, allocated-room}
+pub use Rattle.best_fit.proofs.Laws.{blocks-trans, changed-live, changed-room, inserted-append, keeps-refl}
 pub use Rattle.best_fit.proofs.Laws.{keeps-trans, laid-heap, lay_out_one, legal_size, list_any-insert, live-spaced}
 pub use Rattle.best_fit.proofs.Laws.{middle-first, placed_is_proper, room_block, spaced-insert}
 pub use Rattle.best_fit.specs.Exchange.{ExchangesBlocks, SameBlockExcept, exchanged}
@@ -37,11 +37,11 @@ pub use Rattle.best_fit.specs.{FreeTree.IsTreeOf, FreeTree.cells_of, FreeTree.ga
 pub use Rattle.best_fit.specs.Heap.{AllocatesOk, ChangesBytes, IsHeap, AllocatesNoSpace, Deallocates, ZeroesFree}
 pub use Rattle.best_fit.specs.Heap.{KeepsBlocks, EncodesLiveSet, SameBlock, extent_at, has_room, is_live_in, live_of}
 pub use Rattle.best_fit.specs.Table.{BackingArray, has_backing, no_backing, same_role, serves}
-pub use Rattle.seg_types.specs.Commands.{Append, Assign, Command, Content, Destroy, DestroyPtr, Erase, Get, Insert}
+pub use Rattle.seg_types.specs.Commands.{Append, Assign, Command, Content, DestroyPtr, Erase, Get, Insert}
 pub use Rattle.seg_types.specs.Commands.{Literal, Lookup, Pop, Push, Put, Quoted, Remove, Set, is_changing, literal_of}
 pub use Rattle.seg_types.specs.{Commands.value_of_literal, Kinds.scalar_code, Kinds.size_of, Kinds.spelling}
 pub use Rattle.seg_types.specs.{ScalarLaws.transitive, Values.kind_of_scalar, Values.value_of_scalar}
-pub use Rattle.seg_types.specs.{declared.keys.IndexKey.IndexKey, declared.kinds.Class.Class, declared.kinds.Kind.Kind}
+pub use Rattle.seg_types.specs.{declared.kinds.Class.Class, declared.kinds.Kind.Kind}
 pub use Rattle.seg_types.specs.{declared.refusals.Refusal.Refusal, declared.kinds.ScalarKind.ScalarKind}
 pub use Rattle.seg_types.specs.{declared.plain.Plain.Ghosts as Plain, declared.values.ScalarValue.ScalarValue}
 pub use Rattle.seg_types.specs.Keys.{index_key_seen, key_seen, new_key_seen}
@@ -49,8 +49,7 @@ pub use Rattle.seg_types.specs.Kinds.{class_code, code_of, is_kind_of, is_value,
 pub use Rattle.seg_types.specs.Names.{ByHandle, ByKind, ByName, Key, is_control, is_name, is_printable_name}
 pub use Rattle.seg_types.specs.declared.kinds.Class.TheVariants.{Anonymous, Named as NamedClass, Unique as UniqueClass}
 pub use Rattle.seg_types.specs.declared.kinds.Kind.TheVariants.{Map, Map as MapKind, Scalar, Scalar as ScalarOf, String}
-pub use Rattle.seg_types.specs.declared.kinds.Kind.TheVariants.{String as StringKind, Strings as StringsKind, Vector}
-pub use Rattle.seg_types.specs.declared.kinds.Kind.TheVariants.{Vector as VectorKind}
+pub use Rattle.seg_types.specs.declared.kinds.Kind.TheVariants.{Strings as StringsKind, Vector}
 pub use Rattle.seg_types.specs.declared.kinds.ScalarKind.TheVariants.{Bool as BoolKind, U8}
 pub use Rattle.seg_types.specs.declared.refusals.Refusal.TheVariants.{Exists, NoSpace, NotFound, OutOfRange, ReadOnly}
 pub use Rattle.seg_types.specs.declared.refusals.Refusal.TheVariants.{WrongKind}
@@ -88,7 +87,7 @@ pub use Rattle.segment_manager.specs.{containers.TextLists.LeadsOnOfKind, object
 pub use Rattle.segment_manager.specs.{objects.Standing.room_for, objects.NewObjects.RequestsBlocksErr}
 pub use Rattle.segment_manager.specs.{blocks.Resized.Resizes, blocks.Resized.grown, blocks.Resized.shrunk}
 pub use Rattle.segment_manager.specs.{indexes.Iterating.is_own_span, indexes.Iterating.own_spans, Plan.with_spare_entry}
-pub use Rattle.segment_manager.specs.{Plan.with_storage, Plan.with_value, declared.containers.storages.Change.Change}
+pub use Rattle.segment_manager.specs.{Plan.with_storage, Plan.with_value, declared.containers.storage.Change.Change}
 pub use Rattle.segment_manager.specs.objects.PendingObjects.{BeginsObject, IsAbsentAt, BeginsObjectOk, BeginsAnonymous}
 pub use Rattle.segment_manager.specs.objects.PendingObjects.{BeginsEntryOk, WritesObjectHeader, WritesUnindexedObject}
 pub use Rattle.segment_manager.specs.objects.PendingObjects.{WritesUnindexedAlone, WritesUnindexedForEntry}
@@ -98,7 +97,7 @@ pub use Rattle.segment_manager.specs.Calls.{IsTileOfIndex, elements_at, elements
 pub use Rattle.segment_manager.specs.containers.Changeable.{IsChangeable, IsChangeableObject, IsUnchangeable}
 pub use Rattle.segment_manager.specs.containers.Contents.{Contents, bytes_at, has_values, has_sizes, sizes_at, sizes_of}
 pub use Rattle.segment_manager.specs.containers.Contents.{RefillsContainer, container_at, contents_of, has_storage}
-pub use Rattle.segment_manager.specs.containers.Contents.{container_place, place_of_kind, sizes_at_kind, sizes_of_kind}
+pub use Rattle.segment_manager.specs.containers.Contents.{container_place, sizes_of_kind}
 pub use Rattle.segment_manager.specs.Denotes.{Denotes, IsHeader, IsObjectAt, IsValueAt, handles, padded_name}
 pub use Rattle.segment_manager.specs.objects.Destroyed.{Becomes, Empties, HoldsObject, emptied}
 pub use Rattle.segment_manager.specs.Directory.{Bytes, Directory, Elements, IsDirectory, Numbers, Object, Pairs, Texts}
@@ -109,7 +108,7 @@ pub use Rattle.segment_manager.specs.Directory.{padded, put_object, remove_objec
 pub use Rattle.segment_manager.specs.Directory.{same_bytes, sorted, table_extents, unique_objects, value_extents}
 pub use Rattle.segment_manager.specs.Directory.{value_len, with_changed, with_object, without_object}
 pub use Rattle.seg_types.specs.Literals.{IsValueOf, cons_values, pair_values, values_of}
-pub use Rattle.segment_manager.specs.objects.ElementLists.{first_size, length_at_kind, number_or_none}
+pub use Rattle.segment_manager.specs.objects.ElementLists.{first_size, length_at_kind}
 pub use Rattle.segment_manager.specs.containers.Filled.{Constructs, FindsOrConstructs, BeginsObjectFor, IsDenied}
 pub use Rattle.segment_manager.specs.containers.Filled.{IsGiven}
 pub use Rattle.segment_manager.specs.containers.Filled.{MakesValueOk, MakesValueErr, MakesValue, with_count}
@@ -121,7 +120,7 @@ pub use Rattle.segment_manager.specs.indexes.Iterating.{YieldsInstance, GoesOnNa
 pub use Rattle.segment_manager.specs.Keeping.{HasCapacity, UnchangedWhere, LacksKey}
 pub use Rattle.segment_manager.specs.indexes.Listed.{HasEntries, HasIndexEntry, IsAnonymousAt, IsListed}
 pub use Rattle.segment_manager.specs.containers.Maps.{HasPairs, ReleasesPairs, numbers_in, numbers_of, pair_above}
-pub use Rattle.segment_manager.specs.containers.Maps.{pair_at_end, pair_below, pair_from, pair_up_to, told_of}
+pub use Rattle.segment_manager.specs.containers.Maps.{pair_at_end, pair_from, told_of}
 pub use Rattle.segment_manager.specs.containers.Maps.{answer_of_map, value_or_absent}
 pub use Rattle.segment_manager.specs.objects.NewObjects.{IsNewKeyOf, IsOfKind, RequestsBlocksOk, RestoresBlocks}
 pub use Rattle.segment_manager.specs.Plan.{Need, New, Plan, Refuse, Regrown as RegrownNeed, Reply, Request, bare}
@@ -131,13 +130,13 @@ pub use Rattle.segment_manager.specs.objects.Standing.{HasObject, IsHeadAt, IsHe
 pub use Rattle.segment_manager.specs.State.{AnswersWith, AnswersQuery, AnswersQueryOfKind, IsSegment, TakesStep}
 pub use Rattle.segment_manager.specs.State.{TakesStepOfKind, UnchangedIfRefused, StepsWithoutAnswer, Transitions}
 pub use Rattle.segment_manager.specs.State.{DenotesCurrent, SegmentState, KeepsModeAndPlace, answer_of, done_answer}
-pub use Rattle.segment_manager.specs.State.{handle_answer, refusal_in, scalar_answer, truth_answer}
+pub use Rattle.segment_manager.specs.State.{handle_answer, refusal_in, truth_answer}
 pub use Rattle.segment_manager.specs.Step.{changed, effect, element_at, found, found_at, get, is_read_only, map_of}
 pub use Rattle.segment_manager.specs.Step.{plan, set, storage_of, texts_of, with_items, with_table}
 pub use Rattle.segment_manager.specs.containers.Stored.{AnswersSafely, HasEnough, StepsSafely, command_of}
 pub use Rattle.segment_manager.specs.containers.Walks.{IsMap, first_of, item_of_kinds, item_seen, pairs_at, pairs_of}
 pub use Rattle.segment_manager.specs.declared.modes.Mode.TheVariants.{CopyOnWrite, Write}
-pub use Rattle.segment_manager.specs.declared.containers.storages.Change.TheVariants.{Clear, Reserve, Shrink}
+pub use Rattle.segment_manager.specs.declared.containers.storage.Change.TheVariants.{Clear, Reserve, Shrink}
 pub use Rattle.segment_manager.specs.declared.objects.pending_object.PendingEntry.{PendingEntry}
 pub use Rattle.segment_manager.specs.declared.objects.instance_info.Instance.{Instance}
 pub use Rattle.segment_manager.specs.declared.objects.object_ref.Object.{Object as Located}

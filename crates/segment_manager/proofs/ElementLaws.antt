@@ -12,7 +12,7 @@ pub use Rattle.segment_manager.proofs.objects.Stored.{literal-read, literals-rea
 pub use Rattle.segment_manager.proofs.containers.ContentPlans.{append-other, assign-plan, assign-refused, text-plan}
 pub use Rattle.segment_manager.proofs.containers.ContentPlans.{text-refused}
 -- the elements of an array or a vector are in its run
-pub use Rattle.segment_manager.proofs.containers.ElementRuns.{IsElementAt, IsSliceOfKind, AnArray, AVector}
+pub use Rattle.segment_manager.proofs.containers.ElementRuns.{IsSliceOfKind, AnArray, AVector}
 pub use Rattle.segment_manager.proofs.containers.ElementRuns.{series-element}
 pub use Rattle.segment_manager.proofs.containers.ElementRuns.{run-kind}
 -- reading one element in the run of an object

@@ -78,12 +78,6 @@ module _ (s : SegmentState) (h : ℕ) (k v : ScalarKind) (i : ℕ) where
     pair-said text d l =
         let p = pair-there l in ap text p.same ∙ sym (ap (part_of (λ q. text (item_of_kinds k v (item_of q)))) p.is)
 
-    -- its key is of the kind of the keys
-    pub map-of-key : IsMap s (ByHandle h) k v → IsMap s (ByHandle h) (kind_of_scalar x) v
-    map-of-key m = record {
-      answers = λ d l. (λ j. Ok (Map ((ap (λ t. t.0.0) (pair-there l).same) j) v)) ∙ m.answers d l;
-    }
-
     -- the pair after a map key has the next index
     pub next-behind : (o : Option (ScalarValue × ScalarValue))
         → AnswersWith s (λ d. option_map (item_of_kinds (kind_of_scalar x) v)

@@ -8,7 +8,6 @@ pub mod MapBlocks
 pub mod MapSteps
 pub mod MapCalls
 pub mod MapAnswers
-pub mod MapWalks
 pub mod PairWalks
 pub mod MapLists
 pub mod ItemSteps
@@ -24,7 +23,6 @@ pub mod TextPlans
 pub mod TextsHeld
 pub mod TextMoves
 pub mod TextListCalls
-pub mod NewTexts
 pub mod Emptied
 pub mod Released
 pub mod KeptContainers

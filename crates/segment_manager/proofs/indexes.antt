@@ -2,7 +2,6 @@
 pub mod Tabled
 pub mod OtherTables
 pub mod Indexes
-pub mod Entries
 pub mod Tables
 pub mod Entered
 pub mod Reserves
@@ -10,5 +9,3 @@ pub mod EntryPlaces
 pub mod KeyOrder
 pub mod HeldIndexes
 pub mod Bridge
-pub mod WalkedInstances
-pub mod PartedNames

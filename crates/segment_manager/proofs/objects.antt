@@ -13,7 +13,6 @@ pub mod Ranks
 pub mod RankedPairs
 pub mod Regrown
 pub mod ElementLists
-pub mod Requests
 pub mod NewKeys
 pub mod Constructed
 pub mod FoundOrMade
@@ -38,4 +37,3 @@ pub mod StayingObjects
 pub mod MadeObjects
 pub mod WholeNumbers
 pub mod KindCodes
-pub mod KeyFrames

@@ -2,4 +2,3 @@
 pub(crate) mod requesting;
 pub(crate) mod sizing;
 pub(crate) mod tiles;
-pub(crate) mod walking_tiles;

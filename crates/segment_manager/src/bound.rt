@@ -1,14 +1,13 @@
 //! An object that was looked up once: it is there and has the kind that its calls are for, so they refuse for no other
 //! reason than their own.
-ghost use Rattle.std.specs.Prelude.{◌≡◌, ⊤, IfOk, MatchResult, false, true};
-ghost use Rattle.std.specs.Borrow.{sem, RestsIfErr};
-ghost use Rattle.seg_types.specs.{declared.kinds.Kind.Kind as AnyKind, Names.ByHandle};
-ghost use Rattle.seg_types.specs.declared.refusals.Refusal.TheVariants.{WrongKind as OtherKind};
-ghost use Rattle.segment_manager.specs.{Step.is_read_only, containers.ToChange.IsNotToChange};
-ghost use Rattle.segment_manager.specs.{objects.BoundObjects.IsBound, objects.BoundObjects.LacksKind};
+ghost use Rattle.std.specs.Borrow.{RestsIfErr, sem};
+ghost use Rattle.std.specs.Prelude.{◌≡◌, IfOk, MatchResult, false, true, ⊤};
+ghost use Rattle.seg_types.specs.declared.kinds.Kind.{Kind as AnyKind};
+ghost use Rattle.seg_types.specs.{Names.ByHandle, declared.refusals.Refusal.TheVariants.WrongKind as OtherKind};
+ghost use Rattle.segment_manager.specs.objects.BoundObjects.{IsBound, LacksKind};
 ghost use Rattle.segment_manager.specs.{State.AnswersWith, objects.Found.is_object_at};
-ghost use Rattle.segment_manager.specs.objects.Located.{IsLocated, IsObject};
-ghost use Rattle.segment_manager.specs.contracts.segment.Segment.{the_row};
+ghost use Rattle.segment_manager.specs.{Step.is_read_only, objects.Located.IsLocated, objects.Located.IsObject};
+ghost use Rattle.segment_manager.specs.{containers.ToChange.IsNotToChange, contracts.segment.Segment.the_row};
 
 use crate::objects::object_ref::{Object, ObjectRef, read_of_kind};
 use crate::segment::Segment;

@@ -1,14 +1,9 @@
 //! Objects that are vectors, strings and maps: calls that construct, read and change them, with the blocks of their
-//! contents.
-pub(crate) mod appending;
+//! contents. The elements of arrays of scalars are read and changed here too.
 pub(crate) mod constructing_containers;
 pub(crate) mod element_runs;
 pub(crate) mod fillings;
 pub(crate) mod maps;
-pub(crate) mod ranges;
-pub(crate) mod releasing;
+pub(crate) mod slices;
 pub(crate) mod storage;
-pub(crate) mod storages;
-pub(crate) mod text_lists;
 pub(crate) mod texts;
-pub(crate) mod vectors;

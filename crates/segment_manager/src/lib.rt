@@ -26,17 +26,16 @@ mod segment;
 pub mod theorems;
 pub mod unchecked;
 
-pub use blocks::tiles::TileInfo;
-pub use blocks::walking_tiles::Tiles;
+pub use blocks::tiles::{TileInfo, Tiles};
 pub use bound::maps::{Map, MapMut, Pairs};
 pub use bound::slices::{Array, ArrayMut, Fixed, Growable, Slice, SliceStorage, Vector, VectorMut};
 pub use bound::texts::{StringBytes, StringMut, StringRef, Strings, StringsMut, Texts};
 pub use bound::{Bound, BoundContent, BoundMut};
-pub use containers::appending::{is_remembered, push_within};
 pub use containers::element_runs::ElementRun;
 pub use containers::fillings::{
     NewMap, NewNumbers, NewString, NewTexts, NewVector, ObjectInit, ObjectShape,
 };
+pub use containers::slices::push_within;
 pub use errors::{CreateError, CreateRefused, RelocateRefused};
 pub use indexes::iterating::{Instances, Names};
 pub use modes::Mode;
@@ -46,4 +45,4 @@ pub use objects::construct_keys::{
 pub use objects::instance_info::Instance;
 pub use objects::object_ref::{Object, ObjectRef, locate};
 pub use objects::walking_objects::Objects;
-pub use segment::Segment;
+pub use segment::{Segment, is_remembered};

@@ -1,5 +1,4 @@
-//! Objects of all kinds: calls that find, construct, describe and destroy them, and read and write arrays of scalars.
-pub(crate) mod accessing;
+//! Objects of all kinds: calls that find, construct, describe and destroy them.
 pub(crate) mod construct_keys;
 pub(crate) mod constructing;
 pub(crate) mod constructing_from;

@@ -1,5 +1,5 @@
 //! A segment: a heap whose bytes denote a directory.
-ghost use Rattle.std.specs.Prelude.{◌≡◌, ◌+◌, ◌-◌, ◌%◌, IsTrue, length};
+ghost use Rattle.std.specs.Prelude.{◌≡◌, ◌+◌, ◌-◌, ◌%◌, IsTrue, length, true};
 ghost use Rattle.raw_region.specs.Memory.{whole};
 ghost use Rattle.seg_types.specs.Commands.{Free, Size};
 ghost use Rattle.segment_manager.specs.{Answers.Number, objects.Found.is_object_at, Step.is_read_only};
@@ -111,6 +111,20 @@ impl Segment {
     {
         self.mode == Mode::ReadOnly
     }
+}
+
+/// Returns true if the handle, which can be any number, is remembered and an object has it. An object that is not
+/// remembered has another handle: `Segment::remember` finds it.
+///
+/// Example: `if is_remembered(&segment, handle)`.
+#[inline(always)]
+pub fn is_remembered(segment: &Segment, handle: Handle) -> bool
+    ensures { result ≡ true → AnswersWith segment.now (λ d. is_object_at d handle) true }
+{
+    if best_fit::is_remembered(&segment.heap, handle) {
+        return segment.heap.role(handle) == Role::Object;
+    }
+    false
 }
 
 /// Makes a segment of a window that already contains one. No byte changes.

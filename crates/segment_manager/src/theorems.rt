@@ -1,15 +1,14 @@
 //! Laws of all commands on all segments. Each function here does nothing: its contract is the law.
 ghost use Rattle.std.specs.Prelude.{◌≡◌};
 ghost use Rattle.raw_region.specs.Format.{current};
-ghost use Rattle.segment_manager.specs.{Denotes.magic_number, Denotes.two_halves, indexes.Entries.IndexesFollowObjects};
-ghost use Rattle.segment_manager.specs.{objects.Heads.EntriesSayObjects, containers.OwnedTexts.TextsArePlaced};
-ghost use Rattle.segment_manager.specs.{Staying.ObjectsStay};
 ghost use Rattle.segment_manager.specs.Laws.{CountedAreBelow, HandlesMeanObjects, KeysMeanObjects};
-ghost use Rattle.segment_manager.specs.Laws.{KeysOfKindMeanObjects, ReadsChangeNothing, ReadsOfKindChangeNothing};
-ghost use Rattle.segment_manager.specs.Laws.{PoppedTextsLeadOn, RefusalsChangeNothing, RefusalsOfKindChangeNothing};
-ghost use Rattle.segment_manager.specs.Laws.{RefusedCallsStay, StepsLeadOn};
+ghost use Rattle.segment_manager.specs.Laws.{KeysOfKindMeanObjects, PoppedTextsLeadOn, ReadsChangeNothing};
+ghost use Rattle.segment_manager.specs.Laws.{ReadsOfKindChangeNothing, RefusalsChangeNothing};
+ghost use Rattle.segment_manager.specs.Laws.{RefusalsOfKindChangeNothing, RefusedCallsStay, StepsLeadOn};
 ghost use Rattle.segment_manager.specs.Layout.{format_at, head_len, magic_at, name_class_at, named_at, reserved_at};
-ghost use Rattle.segment_manager.specs.Layout.{size_at, unique_at};
+ghost use Rattle.segment_manager.specs.{Denotes.magic_number, Denotes.two_halves, indexes.Entries.IndexesFollowObjects};
+ghost use Rattle.segment_manager.specs.{Layout.size_at, Layout.unique_at, containers.OwnedTexts.TextsArePlaced};
+ghost use Rattle.segment_manager.specs.{Staying.ObjectsStay, objects.Heads.EntriesSayObjects};
 
 use crate::layout::{
     FORMAT, FORMAT_AT, HALF, HEAD_LEN, MAGIC, MAGIC_AT, NAME_CLASS_AT, NAMED_AT, RESERVED_AT,

@@ -1,20 +1,19 @@
 -- The handles of objects; the own blocks of objects in a live set are the blocks of the directory's objects, in its
 -- order.
 use Rattle.segment_manager.proofs.Common as common
-use common.{◌≡◌, sym, ◌∙◌, ℕ, suc, ◌*◌, ◌∷◌, map, refl, arith, holds, BackingArray, Value, Bytes, Pairs, Texts, Object}
-use common.{sorted}
-use common.{rises, ap, value_extents, table_extents, is_good_value, has_own_block, is_owned_text, Bool, true, ◌&&◌}
-use common.{◌||◌, ◌==◌, Some, None, List, ◌++◌, cond, find, Node, live, false, IsTrue, nat_lt, nat_le, int_lt, eq-eqb}
-use common.{ne_eqb, Extent, handle, serves, Option, length, Storage, size_of, Numbers, has_key, kind_of, by_name}
-use common.{by_kind, [], list_all, list_any, OwnedText, is_rising, Directory, object_at, is_object, if◌then◌else◌}
-use common.{option_to_list, AllByRecursion, is_number_pair, unique_objects, flat_map, eqb-false, and_right, same_role}
-use common.{NumberPair, extents_of, object_len, is_some, eqb-true, has_backing, ByHandle, is_value, node_len, Elements}
-use common.{is_index, ObjectRole, ScalarKind, is_kind_of, IsDirectory, has_good_name, named_objects}
-use Rattle.segment_manager.proofs.{directory.LiveSet.tables_of, directory.LiveSet.live-extents, blocks.Blocks.own-block}
-use Rattle.raw_region.proofs.Facts.{first, second, AllByRecursion-append}
 use Rattle.std.proofs.lemmas.List.Folds.{list_any-append}
-use Rattle.block_tags.specs.{declared.tile.Role.TheVariants.Index, Tiles.role_bits}
+use Rattle.raw_region.proofs.Facts.{AllByRecursion-append, first, second}
+use Rattle.block_tags.specs.{Tiles.role_bits, declared.tile.Role.TheVariants.Index}
 use Rattle.best_fit.specs.Fit.{insert}
+use Rattle.segment_manager.proofs.{blocks.Blocks.own-block, directory.LiveSet.live-extents, directory.LiveSet.tables_of}
+use common.{Elements, Extent, IsDirectory, IsTrue, List, Node, None, NumberPair, Numbers, Object, ObjectRole, Option}
+use common.{OwnedText, Pairs, ScalarKind, Some, Storage, Texts, Value, [], and_right, ap, arith, by_kind, by_name, cond}
+use common.{eq-eqb, eqb-false, eqb-true, extents_of, false, find, flat_map, handle, has_backing, has_good_name, has_key}
+use common.{has_own_block, holds, if◌then◌else◌, int_lt, is_good_value, is_index, is_kind_of, is_number_pair, is_object}
+use common.{is_owned_text, is_rising, is_some, is_value, kind_of, length, list_all, list_any, live, map, named_objects}
+use common.{nat_le, nat_lt, ne_eqb, node_len, object_at, object_len, option_to_list, refl, rises, same_role, serves}
+use common.{size_of, sorted, suc, sym, table_extents, true, unique_objects, value_extents, ℕ}
+use common.{◌&&◌, ◌*◌, ◌++◌, ◌==◌, ◌||◌, ◌∙◌, ◌∷◌, ◌≡◌, AllByRecursion, BackingArray, Bool, ByHandle, Bytes, Directory}
 
 -- ---- some extent of a live set passes a test
 

@@ -1,15 +1,14 @@
 -- The directory of the bytes after the end of the heap moves and the size is written.
-use Rattle.segment_manager.proofs.Common.{◌≡◌, refl, sym, ap, subst, ◌∙◌, ℕ, ◌+◌, ◌≤◌, inl, inr, List, length, arith}
-use Rattle.segment_manager.proofs.Common.{AllByRecursion, WindowState, SameBytes, bytes_of, word_at, current}
-use Rattle.segment_manager.proofs.Common.{SameBytes-part, SameBytes-word, LiveSet, ChangesBytes, EncodesLiveSet}
-use Rattle.segment_manager.proofs.Common.{SameBlock, live_of, blocks-trans, lay_out_one, Directory, by_kind, by_name}
-use Rattle.segment_manager.proofs.Common.{live, named_objects, unique_objects, Denotes, IsHeader, Resizes, grown}
-use Rattle.segment_manager.proofs.Common.{shrunk, IsSegment, DenotesCurrent, SegmentState}
-use Rattle.segment_manager.proofs.directory.LiveSet.{live-size, of_each}
-use Rattle.segment_manager.proofs.{directory.HeapCalls.denotes-live, directory.OneObject.index-stays}
-use Rattle.segment_manager.proofs.{directory.Frame.any_objects-same}
-use Rattle.best_fit.specs.Ends.{EndsAt, MovesEnd, least_size, of_size}
 use Rattle.best_fit.proofs.Laws.{changed-header_blocks, ends-then}
+use Rattle.best_fit.specs.Ends.{EndsAt, MovesEnd, least_size, of_size}
+use Rattle.segment_manager.proofs.Common.{Directory, EncodesLiveSet, IsHeader, IsSegment, List, LiveSet, Resizes}
+use Rattle.segment_manager.proofs.Common.{SameBlock, SameBytes, SameBytes-part, SameBytes-word, SegmentState}
+use Rattle.segment_manager.proofs.Common.{WindowState, ap, arith, blocks-trans, by_kind, by_name, bytes_of, current}
+use Rattle.segment_manager.proofs.Common.{grown, inl, inr, lay_out_one, length, live, live_of, named_objects, refl}
+use Rattle.segment_manager.proofs.Common.{shrunk, subst, sym, unique_objects, word_at, ℕ}
+use Rattle.segment_manager.proofs.Common.{◌+◌, ◌∙◌, ◌≡◌, ◌≤◌, AllByRecursion, ChangesBytes, Denotes, DenotesCurrent}
+use Rattle.segment_manager.proofs.directory.{Frame.any_objects-same, OneObject.index-stays}
+use Rattle.segment_manager.proofs.directory.{HeapCalls.denotes-live, LiveSet.live-size, LiveSet.of_each}
 
 -- the live set of a directory of another size
 live-of_size : (d : Directory) (n : ℕ) → of_size (live d) n ≡ live (record d { size = n })

@@ -1,22 +1,22 @@
 -- What a call on a bound object says of the object's key.
-use Rattle.segment_manager.proofs.Common.{◌≡◌, sym, ap, ◌∙◌, subst, ℤ, None, Some, Ok, Err, Option, Result, List, []}
-use Rattle.segment_manager.proofs.Common.{Kind, ScalarKind, Key, Command, Answer, Refusal, NotFound, WrongKind, Map}
-use Rattle.segment_manager.proofs.Common.{same_kind, AnswersWith, AnswersQueryOfKind, TakesStepOfKind, SegmentState}
-use Rattle.segment_manager.proofs.Common.{IsLocated, Located, Object, NumberPair, kind_of, told_of, answer_of_map}
-use Rattle.segment_manager.proofs.Common.{if◌then◌else◌, pairs_of, UnchangedWhere, object_at, is_changing, Refused}
-use Rattle.segment_manager.proofs.Common.{exit-is, refusal_in, refusal_of, refl, true, ℕ, OnErr, IsNotToChange}
-use Rattle.segment_manager.proofs.Common.{LeadsOnOfKind, answer_of, false, Directory, DenotesCurrent, int_lt, pair_at}
-use Rattle.segment_manager.proofs.Common.{pairs_at, MatchResult, IsSegment, IsObjectInBlock, handle_at}
-use Rattle.segment_manager.proofs.containers.Refilled.{finds-no_container, placed, told-none, told-some}
-use Rattle.segment_manager.proofs.objects.Locating.{IsSaidAt, said-at, head-located, locates, leads_on-by_key}
-use Rattle.segment_manager.proofs.objects.Locating.{reply_of_kind-by_key, same-object, step_of_kind-by_key, told-by_key}
-use Rattle.segment_manager.specs.Keeping.{ChangesValue, LacksFirst, LacksPair}
-use Rattle.segment_manager.specs.objects.BoundObjects.{IsBound, LacksKind, key_of}
 use Rattle.std.specs.Prelude.{IsErrAnd}
-use Rattle.segment_manager.proofs.{containers.RangeCalls.no-same, containers.StorageSteps.step_of_kind-reply}
-use Rattle.segment_manager.proofs.{containers.ToChange.not-changed, directory.CommandSteps.open-reading}
-use Rattle.segment_manager.proofs.{objects.Here.nothing-if, objects.Here.seen-object, objects.Standings.alike}
-use Rattle.segment_manager.specs.{Laws.at_key, objects.Located.IsObject, objects.Located.located}
+use Rattle.segment_manager.proofs.Common.{Directory, Err, IsLocated, IsNotToChange, IsObjectInBlock, IsSegment, Key}
+use Rattle.segment_manager.proofs.Common.{Kind, LeadsOnOfKind, List, Located, Map, MatchResult, None, NotFound}
+use Rattle.segment_manager.proofs.Common.{NumberPair, Object, Ok, OnErr, Option, Refusal, Refused, Result, ScalarKind}
+use Rattle.segment_manager.proofs.Common.{SegmentState, Some, TakesStepOfKind, UnchangedWhere, WrongKind, [], answer_of}
+use Rattle.segment_manager.proofs.Common.{answer_of_map, ap, exit-is, false, handle_at, if◌then◌else◌, int_lt}
+use Rattle.segment_manager.proofs.Common.{is_changing, kind_of, object_at, pair_at, pairs_at, pairs_of, refl}
+use Rattle.segment_manager.proofs.Common.{refusal_in, refusal_of, same_kind, subst, sym, told_of, true, ℕ, ℤ}
+use Rattle.segment_manager.proofs.Common.{◌∙◌, ◌≡◌, Answer, AnswersQueryOfKind, AnswersWith, Command, DenotesCurrent}
+use Rattle.segment_manager.proofs.containers.Refilled.{finds-no_container, placed, told-some}
+use Rattle.segment_manager.proofs.containers.{RangeCalls.no-same, StorageSteps.step_of_kind-reply, ToChange.not-changed}
+use Rattle.segment_manager.proofs.directory.CommandSteps.{open-reading}
+use Rattle.segment_manager.proofs.objects.Locating.{IsSaidAt, head-located, leads_on-by_key, locates}
+use Rattle.segment_manager.proofs.objects.Locating.{reply_of_kind-by_key, said-at, same-object, step_of_kind-by_key}
+use Rattle.segment_manager.proofs.objects.{Here.seen-object, Locating.told-by_key, Standings.alike}
+use Rattle.segment_manager.specs.objects.BoundObjects.{IsBound, LacksKind, key_of}
+use Rattle.segment_manager.specs.objects.Located.{IsObject, located}
+use Rattle.segment_manager.specs.{Keeping.ChangesValue, Keeping.LacksFirst, Keeping.LacksPair, Laws.at_key}
 
 module _ {s t : SegmentState} (same : t ≡ s) {key : Key} {o : Located} (l : IsLocated s key o) where
   -- an answer
@@ -147,13 +147,6 @@ pub of-found : {s t : SegmentState} (view : s ≡ t) (key : Key) {h : ℕ} (kind
 of-found view key {h} kind r g a each =
     let there = seen-object _ _ view key h g a in
     of-located (locates (head-located view key a (λ o s. alike there.1 s))) kind r (each there.0 there.1)
-
--- no object was found
-pub none-found : {s : SegmentState} (key : Key) (kind : Kind) → AnswersWith s (λ d. handle_at d key) None
-    → LacksKind s key kind NotFound
-none-found key kind a = record {
-  answers = λ d k. sym (told-none d key kind placed (nothing-if (object_at d key) (a.answers d k)));
-}
 
 -- it is bound to its kind
 pub binds : {s : SegmentState} {o : Located} {kind : Kind} → IsObject o s → o.kind ≡ kind → IsBound kind o s

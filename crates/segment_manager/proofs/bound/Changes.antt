@@ -1,9 +1,8 @@
 -- A call that changed a bound object: its step, and that the object stays bound.
-use Rattle.segment_manager.proofs.Common.{◌≡◌, ap, subst, ◌∙◌, true, false, Result, IfErr, WindowState, Kind, Key}
-use Rattle.segment_manager.proofs.Common.{Command, Answer, Refusal, Located, SegmentState, IsSegment, is_elementwise}
-use Rattle.segment_manager.proofs.{Common.is_read_only, bound.Places.bound-stays, containers.Safely.Answered}
-use Rattle.segment_manager.specs.objects.BoundObjects.{IsBound, key_of}
-use Rattle.segment_manager.specs.objects.BoundSteps.{StepsBound}
+use Rattle.segment_manager.proofs.Common.{Result, SegmentState, WindowState, ap, false, is_elementwise, is_read_only}
+use Rattle.segment_manager.proofs.Common.{◌∙◌, ◌≡◌, Answer, Command, IfErr, IsSegment, Key, Kind, Located, Refusal}
+use Rattle.segment_manager.proofs.{Common.subst, Common.true, bound.Places.bound-stays, containers.Safely.Answered}
+use Rattle.segment_manager.specs.objects.{BoundObjects.IsBound, BoundObjects.key_of, BoundSteps.StepsBound}
 
 -- the step, the effect on the gaps, and what the call leaves
 pub record Changed {R : Type 0} (kind : Kind) (o : Located) (s t : SegmentState) (new : WindowState) (c : Key → Command)

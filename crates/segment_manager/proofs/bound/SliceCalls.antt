@@ -1,33 +1,31 @@
 -- Calls on bound arrays and vectors: what they leave of the object, and what they say of the object's key.
 use Rattle.segment_manager.proofs.Common as common
 use Rattle.seg_types.specs.Commands as asked
-use common.{◌≡◌, refl, sym, ap, subst, ◌∙◌, ℕ, ◌+◌, ℤ, Bool, true, false, Option, Some, None, Result, Ok, Err, List, []}
-use common.{length, slice_get, arith, nat_lt, WindowState, Kind, ScalarKind, Scalar, Vector, Key, Answer, Refusal}
-use common.{NotFound, OutOfRange, ReadOnly, Element, Refused, Done, Directory, Object, Value, Numbers, Elements}
-use common.{kind_of, object_at, live, get, perform, code_of, same_kind, eq-eqb, SegmentState, DenotesCurrent, IsSegment}
-use common.{AnswersWith, AnswersQueryOfKind, step_of_kind, answer_of, done_answer, is_read_only, Located, Place}
-use common.{IsLocated, IsNotToChange, container_at, if◌then◌else◌, size_of, exit-is, slice_get_past, ltb-false}
-use common.{storage_of, with, Refuse, Get, SameBytesExcept, bytes_of}
-use Rattle.std.specs.Prelude.{IfOk, IsErrAnd, OnOk}
-use Rattle.segment_manager.specs.objects.ElementLists.{element_of, numbers_at, numbers_in, whole_of}
+use Rattle.std.specs.{Option.ok_or, Prelude.IfOk, Prelude.IsErrAnd, Prelude.OnOk}
+use Rattle.best_fit.proofs.Laws.{gaps-refl}
+use Rattle.best_fit.specs.Heap.{KeepsGaps}
+use Rattle.segment_manager.proofs.bound.ByKey.{from-to}
 use Rattle.segment_manager.proofs.containers.Extending.{VectorExtended, extended-missing, extended-reading}
 use Rattle.segment_manager.proofs.containers.RangeCalls.{HasNumbers, RangeWritten, index_at, many, numbers-of}
-use Rattle.segment_manager.proofs.containers.Refilled.{by-kind, placed, told-none, told-some, told_if}
+use Rattle.segment_manager.proofs.containers.Refilled.{by-kind, placed, told-none, told-some}
+use Rattle.segment_manager.proofs.containers.{ContentPlans.clear-plan, Extending.extended-stays, Extending.of_object}
+use Rattle.segment_manager.proofs.containers.{ItemSteps.vector-only, RangeCalls.on_ok-map}
 use Rattle.segment_manager.proofs.directory.CommandSteps.{moves-same, open-reading, open-writing}
 use Rattle.segment_manager.proofs.directory.CommandSteps.{refuses_of_kind-read_only, step_of_kind-found}
 use Rattle.segment_manager.proofs.directory.CommandSteps.{step_of_kind-not_found, step_of_kind-other, with-found}
 use Rattle.segment_manager.proofs.objects.ElementLists.{list-of, numbers-listed, told}
 use Rattle.segment_manager.proofs.objects.Locating.{IsSaidAt, said-at, same-object}
-use Rattle.std.specs.Option.{ok_or}
-use Rattle.best_fit.specs.Heap.{KeepsGaps}
-use Rattle.best_fit.proofs.Laws.{gaps-refl}
-use Rattle.segment_manager.specs.{Keeping.ChangesElement, objects.Located.element_in}
-use Rattle.segment_manager.specs.containers.Ranges.{ExtendsVector, extended}
-use Rattle.segment_manager.specs.objects.BoundObjects.{IsBound, key_of}
-use Rattle.segment_manager.proofs.{bound.ByKey.from-to, containers.ContentPlans.clear-plan}
-use Rattle.segment_manager.proofs.containers.Extending.{extended-stays, of_object}
-use Rattle.segment_manager.proofs.{containers.ItemSteps.vector-only, containers.RangeCalls.on_ok-map}
 use Rattle.segment_manager.proofs.objects.StayingObjects.{extends-stay, writes-stay}
+use Rattle.segment_manager.specs.objects.ElementLists.{element_of, numbers_at, numbers_in, whole_of}
+use Rattle.segment_manager.specs.objects.{BoundObjects.IsBound, BoundObjects.key_of, Located.element_in}
+use Rattle.segment_manager.specs.{Keeping.ChangesElement, containers.Ranges.ExtendsVector, containers.Ranges.extended}
+use common.{Elements, Err, Get, IsLocated, IsNotToChange, IsSegment, Key, Kind, List, Located, None, NotFound, Numbers}
+use common.{Object, Ok, Option, OutOfRange, Place, ReadOnly, Refusal, Refuse, Refused, Result, SameBytesExcept, Scalar}
+use common.{ScalarKind, SegmentState, Some, Value, Vector, WindowState, [], answer_of, ap, arith, bytes_of, code_of}
+use common.{container_at, done_answer, eq-eqb, exit-is, false, get, if◌then◌else◌, is_read_only, kind_of, length, live}
+use common.{ltb-false, nat_lt, object_at, perform, refl, same_kind, size_of, slice_get, slice_get_past, step_of_kind}
+use common.{storage_of, subst, sym, true, with, ℕ, ℤ}
+use common.{◌+◌, ◌∙◌, ◌≡◌, Answer, AnswersQueryOfKind, AnswersWith, Bool, DenotesCurrent, Directory, Done, Element}
 
 -- ---- arrays
 
@@ -51,10 +49,6 @@ module _ {s : SegmentState} {k : ScalarKind} {o : Located} (bound : IsBound (Sca
 
   long : {d : Directory} (h : HasNumbers d o k) → o.count ≡ length h.numbers
   long h = many s o (record { at = bound.there; here = bound.there }) k 0 [] bound.of_kind h
-
-  -- the count in the head is the number of the elements
-  pub array-counted : AnswersWith s (λ d. length (numbers_at d (key_of o) (Scalar k))) o.count
-  array-counted = record { answers = λ d l. let h = numbers d l in long h ∙ sym (ap length (listed h)) }
 
   -- there is no element past the count
   pub array-past : (i : ℕ) (l : ScalarKind) {why : Refusal} → Err why ≡ element_in o l i
@@ -135,18 +129,6 @@ module _ {s t : SegmentState} (same : t ≡ s) {key : Key} {o : Located} (l : Is
       said k w (Ok x) None e = absurd (cc)
       said k w (Err why) (Some z) e = absurd (cc)
       said k w (Err why) None e = let one : why ≡ OutOfRange = cc in ap Refused one
-
-  -- the number of its elements is the key's
-  pub counts : (say : Value → Result ℕ Refusal) → ((v : Value) → same_kind kind (kind_of v) ≡ true
-      → say v ≡ Ok (length (numbers_in v))) → {n : ℕ} → AnswersWith t (λ d. length (numbers_at d (key_of o) kind)) n
-      → AnswersWith s (λ d. told_if d key kind (λ p. say p.value)) (Ok n)
-  counts say only {n} a = record {
-    answers = λ d st.
-        let h : There d = there d st in
-        ap Ok ((subst (λ (u : SegmentState). AnswersWith u (λ d. length (numbers_at d (key_of o) kind)) n)
-        same a).answers d st ∙ ap length h.lists) ∙ sym (only h.object.value h.of_kind)
-        ∙ sym (told-some d key kind (λ p. say p.value) h.object true h.at h.of_kind);
-  }
 
 -- ---- the segment as the call by key leaves it
 

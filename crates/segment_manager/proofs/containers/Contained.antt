@@ -1,22 +1,20 @@
 -- A vector or text as the value of an object: its place for the calls of seg_vector, and the effect of these calls on
 -- the object.
 use Rattle.segment_manager.proofs.Common as common
-use common.{◌≡◌, refl, Bool, ◌&&◌, Some, None, List, IsContainer, Value, Bytes, Object, padded, sym, ap, ◌∙◌, ◌+◌, ◌*◌}
-use common.{◌≤◌, ℤ, [], ◌∷◌, WindowState, Key, live, subst, ObjectRole, ScalarKind, is_kind_of, IsStorageBlock}
-use common.{RefillsContainer, has_values, ℕ, and_from, extent_at, Directory, is_object, object_at, value_len, IsValueAt}
-use common.{Option, length, IsTrue, nat_le, le-leb, Memory, Extent, handle, BackingArray, serves, append-nil, same_Some}
-use common.{ExchangesBlocks, contents_of, is_good_value, value_extents, arith, Storage, LiveSet, live_of, size_of}
-use common.{spelled, kind_of, Denotes, changed, option_to_list, IsContainerAt, container_place, has_good_name}
-use common.{AllByRecursion, current, bytes_of, has_backing, place_at, Contents, Elements, count_of, IsObjectInBlock}
-use Rattle.segment_manager.proofs.objects.Exchanged.{Exchange, between, denotes-container}
-use Rattle.raw_region.proofs.Facts.{second, first, no_more}
+use Rattle.raw_region.proofs.Facts.{first, no_more, second}
 use Rattle.segment_manager.proofs.containers.MapBlocks.{BlocksInUse, blocks-in_use}
-use Rattle.segment_manager.proofs.objects.Rewritten.{value_start, with_value}
-use Rattle.segment_manager.proofs.{blocks.Blocks.spelled-length, objects.Here.standing}
-use Rattle.segment_manager.proofs.directory.HeapCalls.{denotes-heap, denotes-live}
-use Rattle.segment_manager.proofs.{objects.ObjectLists.key-found, objects.Standings.standing-room}
-use Rattle.segment_manager.proofs.{directory.Frame.object-roomy, directory.LiveSet.IsIn}
-use Rattle.segment_manager.proofs.directory.ExtentOrder.{Differs, IsFoundIn}
+use Rattle.segment_manager.proofs.directory.{ExtentOrder.Differs, ExtentOrder.IsFoundIn, LiveSet.IsIn}
+use Rattle.segment_manager.proofs.directory.{Frame.object-roomy, HeapCalls.denotes-heap, HeapCalls.denotes-live}
+use Rattle.segment_manager.proofs.objects.Exchanged.{Exchange, between, denotes-container}
+use Rattle.segment_manager.proofs.objects.{Rewritten.value_start, Rewritten.with_value, Standings.standing-room}
+use Rattle.segment_manager.proofs.{blocks.Blocks.spelled-length, objects.Here.standing, objects.ObjectLists.key-found}
+use common.{Elements, ExchangesBlocks, Extent, IsContainer, IsContainerAt, IsObjectInBlock, IsStorageBlock, IsTrue}
+use common.{IsValueAt, Key, List, LiveSet, Memory, None, Object, ObjectRole, Option, RefillsContainer, ScalarKind, Some}
+use common.{Storage, Value, WindowState, [], and_from, ap, append-nil, arith, bytes_of, changed, container_place}
+use common.{contents_of, count_of, current, extent_at, handle, has_backing, has_good_name, has_values, is_good_value}
+use common.{is_kind_of, is_object, kind_of, le-leb, length, live, live_of, nat_le, object_at, option_to_list, padded}
+use common.{place_at, refl, same_Some, serves, size_of, spelled, subst, sym, value_extents, value_len, ℕ, ℤ}
+use common.{◌&&◌, ◌*◌, ◌+◌, ◌∙◌, ◌∷◌, ◌≡◌, ◌≤◌, AllByRecursion, BackingArray, Bool, Bytes, Contents, Denotes, Directory}
 
 -- ---- the value
 

@@ -120,12 +120,7 @@ module _ (d : Directory) (key : Key) (o : Object) (bs : List ℕ) (t : BackingAr
       → effect d (asked.Assign key ls) ≡ Refuse r
   text-refused ls r g = text-literals ls ∙ ap (λ r. with r text_with) g
 
-  -- one byte is read, and replaced
-  pub byte-plan : (i : ℕ) (r : Option ℤ) → slice_get (map pos bs) i ≡ r
-      → effect d (asked.Get key i) ≡ with (of_slice r) (λ z. Reply (Element U8 z) d)
-  byte-plan i r g =
-      by-value d key o _ (λ o v. step.get d v i) e f ∙ ap (λ r. with (of_slice r) (λ z. Reply (Element U8 z) d)) g
-
+  -- one byte is replaced
   abbrev pub put_byte : ℕ → ℤ → ℤ → Plan
   put_byte i z old = Reply Done (changed d o (Bytes (map nat_abs (slice_set (map pos bs) i z)) t))
 

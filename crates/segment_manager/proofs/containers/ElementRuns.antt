@@ -1,27 +1,25 @@
 -- The place of an object's elements: the result of reading its head and its container's words is its run.
 use Rattle.segment_manager.proofs.Common as common
-use common.{◌≡◌, refl, sym, ap, subst, ◌∙◌, ℕ, ℤ, zero, suc, Bool, true, ◌∷◌, ◌+◌, ◌*◌, ◌%◌, ◌≤◌, Option, Some, None}
-use common.{Result, Ok, Err, List, [], length, arith, IsTrue, WindowState, Memory, HasBytesAt, bytes_of, read, current}
-use common.{word_at, link_at, has_room, live_of, IsHeap, handle, Extent, BackingArray, room_block, Key, Kind}
-use common.{ScalarKind, U8, size_of, spelled, Scalar, String, Vector, Refusal, NotFound, Object, Directory, Value}
-use common.{Numbers, Elements, Bytes, Pairs, Texts, object_at, kind_of, padded, head_len, IsValueAt, IsObjectInBlock}
-use common.{AnswersWith, handle_at, SegmentState, DenotesCurrent, IsSegment, Contents, slice_get, list_all, is_value}
-use common.{is_good_value, spelling, contents_of, Denotes, count_of, eqb-true, has_backing, Storage, IfSome, value_len}
-use common.{WrongKind, option_map, ByHandle, IsLocated, IsMissing, Located}
-use Rattle.segment_manager.proofs.objects.Locating.{same-object, told-by_key}
-use Rattle.segment_manager.proofs.objects.Here.{here, seen-handle, standing}
-use Rattle.segment_manager.specs.{objects.ElementLists.numbers_in}
-use Rattle.segment_manager.proofs.objects.Standings.{standing-room, standing-short}
-use Rattle.segment_manager.proofs.{containers.Contained.contents-stand, directory.HeapCalls.denotes-heap}
-use Rattle.segment_manager.proofs.{directory.Frame.object-roomy}
-use Rattle.segment_manager.proofs.{blocks.Blocks.spelling-length, objects.Slices.HasBytesAt-element}
+use Rattle.std.specs.{Option.unwrap_or, Prelude.IfOk, Prelude.option_map}
 use Rattle.raw_region.proofs.Facts.{first, second}
 use Rattle.best_fit.proofs.Laws.{block_aligned}
 use Rattle.best_fit.specs.Table.{table_link}
 use Rattle.seg_vector.proofs.storage.Storage.{stands-room}
-use Rattle.std.specs.{Option.unwrap_or, Prelude.IfOk, Prelude.option_map}
-use Rattle.segment_manager.specs.declared.containers.element_runs.ElementRun.{ElementRun}
+use Rattle.segment_manager.proofs.directory.{Frame.object-roomy, HeapCalls.denotes-heap}
+use Rattle.segment_manager.proofs.objects.{Here.here, Here.seen-handle, Here.standing, Slices.HasBytesAt-element}
+use Rattle.segment_manager.proofs.objects.{Locating.same-object, Locating.told-by_key, Standings.standing-room}
+use Rattle.segment_manager.proofs.{blocks.Blocks.spelling-length, containers.Contained.contents-stand}
 use Rattle.segment_manager.specs.containers.ElementRuns.{IsRunOf, run_at, run_in, run_of, spelled_in, storage_offset}
+use Rattle.segment_manager.specs.declared.containers.element_runs.ElementRun.{ElementRun}
+use Rattle.segment_manager.specs.objects.ElementLists.{numbers_in}
+use common.{DenotesCurrent, Directory, Elements, Err, Extent, HasBytesAt, IfSome, IsHeap, IsLocated, IsObjectInBlock}
+use common.{IsSegment, IsTrue, IsValueAt, Key, List, Located, Memory, None, NotFound, Numbers, Object, Ok, Option}
+use common.{Pairs, Refusal, Result, Scalar, ScalarKind, SegmentState, Some, Storage, String, Texts, U8, Value, Vector}
+use common.{WindowState, [], ap, arith, bytes_of, contents_of, current, eqb-true, handle, handle_at, has_backing}
+use common.{has_room, head_len, is_good_value, is_value, kind_of, length, link_at, list_all, live_of, object_at}
+use common.{option_map, padded, read, refl, room_block, size_of, slice_get, spelled, spelling, subst, suc, sym, true}
+use common.{value_len, word_at, zero, ℕ, ℤ}
+use common.{◌%◌, ◌*◌, ◌+◌, ◌∙◌, ◌∷◌, ◌≡◌, ◌≤◌, AnswersWith, BackingArray, Bool, ByHandle, Bytes, Contents, Denotes}
 
 -- ---- reads
 
@@ -70,51 +68,6 @@ module _ {b : List ℕ} {h : ℕ} (o : Object) (s : IsObjectInBlock b h o) where
       (f.offset ∙ ap (λ x. unwrap_or (link_at (bytes_of b) x) 0) place) said.link)
       (f.count ∙ ap (word_at (bytes_of b)) len ∙ said.len_word) f.kind)
   string-read at r v e f g said = absurd (cc)
-
-  -- the run that was read is the elements of an array
-  pub scalars-read : (at n : ℕ) (k : ScalarKind) (v : Value) → at ≡ head_len + padded (length o.name) → n ≡ count_of v
-      → Scalar k ≡ kind_of v
-      → Ok (let r : ElementRun = record { offset = h + at; count = n; kind = k } in r) ≡ run_in start v
-  scalars-read at n k (Numbers j zs) e f g =
-      let place : h + at ≡ start = omega (arith, s.at, e) in let kind : k ≡ j = cc in
-      ap Ok (same-run place f kind)
-  scalars-read at n k v e f g = absurd (cc)
-
-  -- a value of another kind has no run of elements
-  pub no-run_in : (kind : Kind) (v : Value) → kind ≡ kind_of v → ((k : ScalarKind) → kind ≡ Scalar k → ⊥)
-      → ((k : ScalarKind) → kind ≡ Vector k → ⊥) → (kind ≡ String → ⊥) → Err WrongKind ≡ run_in start v
-  no-run_in kind (Numbers k zs) e f g n = absurd (f k e)
-  no-run_in kind (Elements k zs t) e f g n = absurd (g k e)
-  no-run_in kind (Bytes bs t) e f g n = absurd (n e)
-  no-run_in kind (Pairs k v ps) e f g n = refl
-  no-run_in kind (Texts ps t) e f g n = refl
-
--- the place of a container's three words in the block of its object
-pub record AreWords (b : List ℕ) (h at : ℕ) : Type 0 where
-  pub whole : at % 8 ≡ 0
-  pub near : at ≤ 4096
-  pub room : IsTrue (has_room (live_of b) h (at + 24))
-
--- the three words of a container follow the head
-pub are-words : {b : List ℕ} {h : ℕ} (o : Object) → IsObjectInBlock b h o → (at : ℕ)
-    → at ≡ head_len + padded (length o.name) → value_len o.value ≡ 24 → AreWords b h at
-are-words {b} {h} o s at e len =
-    let short = standing-short b h o s in
-    record {
-      whole = omega (arith, e);
-      near = omega (arith, e, short);
-      room = standing-room b h (at + 24) o s (omega (arith, e, len));
-    }
-
--- a vector takes 24 bytes in its object
-pub vector-len : (k : ScalarKind) (v : Value) → Vector k ≡ kind_of v → value_len v ≡ 24
-vector-len k (Elements j zs t) e = refl
-vector-len k v e = absurd (cc)
-
--- a string takes 24 bytes in its object
-pub string-len : (v : Value) → String ≡ kind_of v → value_len v ≡ 24
-string-len (Bytes bs t) e = refl
-string-len v e = absurd (cc)
 
 -- ---- the place of the run, and its bytes
 
@@ -228,12 +181,6 @@ run-answers {s} {t} view key {h} {r} a each =
           let o = here s.cut.bytes d key h k.denotes ((seen-handle s t view key (Some h) a).answers d k) in
           each o.object o.stands ∙ sym (ap run_if o.is);
     })
-
--- an object that does not exist has no run
-pub no-run : (s : SegmentState) (key : Key) {why : Refusal} → IsMissing s key why
-    → AnswersWith s (λ d. run_at d key) (Err why)
-no-run s key m = subst (λ (r : Refusal). AnswersWith s (λ d. run_at d key) (Err r)) (sym m.is)
-    (record { answers = λ d k. sym (ap run_if (m.missing d k)) })
 
 -- and its bytes encode the elements
 pub run-bytes : {s t : SegmentState} (view : s ≡ t) (key : Key) (r : Result ElementRun Refusal) → IsSegment s.cut.bytes

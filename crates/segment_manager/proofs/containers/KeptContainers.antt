@@ -1,15 +1,10 @@
--- What calls on vectors, strings and maps leave to the last byte.
-use Rattle.segment_manager.proofs.Common.{◌≡◌, sym, ap, subst, ◌∙◌, ℕ, ◌≤◌, ℤ, Bool, Option, Some, None, Result, Ok}
-use Rattle.segment_manager.proofs.Common.{Err, List, [], MatchOption, int_lt, none-some, WindowState, ScalarKind}
-use Rattle.segment_manager.proofs.Common.{StringsKind, Plain, Refusal, NotFound, Key, Map, ErasesKey, pair_at}
-use Rattle.segment_manager.proofs.Common.{NumberPair, Place, container_at, sizes_of, Object, Directory, object_at}
-use Rattle.segment_manager.proofs.Common.{HasCapacity, UnchangedWhere, AnswersWith, SegmentState, DenotesCurrent}
-use Rattle.segment_manager.proofs.Common.{pairs_of, Change, HasEnough, Reserve, PutsPair}
-use Rattle.segment_manager.proofs.containers.TextsHeld.{HoldsTexts, holds-texts}
-use Rattle.segment_manager.proofs.containers.PairNumbers.{IsScalarOf, erases-numbers, puts-numbers}
-use Rattle.segment_manager.proofs.containers.MapCalls.{HoldsPairs, holds-pairs}
-use Rattle.segment_manager.proofs.containers.ToChange.{seen-found}
-use Rattle.segment_manager.specs.{containers.Stored.ChangesTexts, Keeping.ChangesValue, Keeping.LacksPair}
+-- What calls on vectors of strings leave to the last byte.
+use Rattle.segment_manager.proofs.Common.{◌≡◌, sym, ap, subst, ◌∙◌, ℕ, ◌≤◌, Option, Some, None, Result, Ok, Err}
+use Rattle.segment_manager.proofs.Common.{WindowState, StringsKind, Refusal, NotFound, Key, Place, container_at}
+use Rattle.segment_manager.proofs.Common.{sizes_of, Object, Directory, object_at, HasCapacity, UnchangedWhere}
+use Rattle.segment_manager.proofs.Common.{AnswersWith, SegmentState, DenotesCurrent, Change, HasEnough, Reserve}
+use Rattle.segment_manager.proofs.containers.{TextsHeld.HoldsTexts, TextsHeld.holds-texts, ToChange.seen-found}
+use Rattle.segment_manager.specs.containers.Stored.{ChangesTexts}
 
 -- the window is as it was, and so is the segment
 pub keeps-cut : (s t : SegmentState) (view : s ≡ t) (new : WindowState) (P : Directory → Type 0)
@@ -47,48 +42,3 @@ texts-kept {s} {t} view key {p} found new change r each =
         (each.1 h.texts h.table h.stand
         (enough-places d key h.object n _ h.table.capacity h.is (ap sizes_of h.value) has)).1
     same change each d l has = absurd has
-
--- ---- pairs
-
-none-erased : (P : Type 0) (Q : NumberPair → Type 0) (o : Option NumberPair) → o ≡ None → MatchOption o P Q → P
-none-erased P Q None e m = m
-none-erased P Q (Some q) e m = absurd (none-some q (sym e))
-
--- a refused change of a map leaves the segment
-pub map-kept : {K V : Type 0} {k v : ScalarKind} {kp : Plain K} {vp : Plain V} {kw : K → ℤ} {vw : V → ℤ}
-    → IsScalarOf k kp kw → IsScalarOf v vp vw → (s t : SegmentState) (view : s ≡ t) (key : Key) (p q : Place) → q ≡ p
-    → AnswersWith t (λ d. container_at d key (Map k v)) (Ok p) → (new : WindowState) (x : K) (r : Bool)
-    → ErasesKey kp vp s.cut new q.handle q.at x r → UnchangedWhere t (record s { cut = new }) (LacksPair key (kw x))
-map-kept {k = k} {v = v} {kp = kp} {vp = vp} {kw = kw} kl vl s t view key p q same found new x r each =
-    let there : AnswersWith s (λ d. container_at d key (Map k v)) (Ok q) =
-    subst (λ (q : Place). AnswersWith s (λ d. container_at d key (Map k v)) (Ok q)) (sym same)
-    (seen-found s t view key (Map k v) p found) in
-    keeps-cut s t view new (LacksPair key (kw x)) (λ d l lacks.
-    let h : HoldsPairs s.cut.bytes d key k v q = holds-pairs s.cut.bytes d key k v q l.denotes (there.answers d l) in
-    let pairs : (elim (object_at d key) as (λ _. List NumberPair) [ None ↦ [] | Some o ↦ pairs_of o.value ]) ≡ h.pairs =
-    ap (λ (o : Option Object). elim o as (λ _. List NumberPair) [ None ↦ [] | Some o ↦ pairs_of o.value ]) h.is
-    ∙ ap pairs_of h.known.value in
-    (none-erased _ _ (pair_at int_lt h.pairs (kw x)) (sym (ap (λ ps. pair_at int_lt ps (kw x)) pairs) ∙ lacks)
-    (erases-numbers kl vl s.cut new q.handle q.at x r each h.pairs h.map)).1)
-
-pair-written : (P : Type 0) (Q : NumberPair → Type 0) (o : Option NumberPair) (p : NumberPair) → o ≡ Some p
-    → MatchOption o P Q → Q p
-pair-written P Q None p e m = absurd (none-some p e)
-pair-written P Q (Some q) p e m = let same : q ≡ p = cc in subst Q same m
-
--- a pair put over another one needs no space
-pub map-again : {K V E : Type 0} {k v : ScalarKind} {kp : Plain K} {vp : Plain V} {kw : K → ℤ} {vw : V → ℤ}
-    → IsScalarOf k kp kw → IsScalarOf v vp vw → (s t : SegmentState) (view : s ≡ t) (key : Key) (p q : Place) → q ≡ p
-    → AnswersWith t (λ d. container_at d key (Map k v)) (Ok p) → (new : WindowState) (x : K) (y : V) (r : Result Bool E)
-    → PutsPair kp vp s.cut new q.handle q.at x y r → ChangesValue t (record s { cut = new }) key k (kw x) v
-map-again {k = k} {v = v} {kw = kw} kl vl s t view key p q same found new x y r each =
-    let there : AnswersWith s (λ d. container_at d key (Map k v)) (Ok q) =
-    subst (λ (q : Place). AnswersWith s (λ d. container_at d key (Map k v)) (Ok q)) (sym same)
-    (seen-found s t view key (Map k v) p found) in
-    subst (λ (u : SegmentState). ChangesValue u (record s { cut = new }) key k (kw x) v) view (λ d l pair has.
-    let h : HoldsPairs s.cut.bytes d key k v q = holds-pairs s.cut.bytes d key k v q l.denotes (there.answers d l) in
-    let pairs : (elim (object_at d key) as (λ _. List NumberPair) [ None ↦ [] | Some o ↦ pairs_of o.value ]) ≡ h.pairs =
-    ap (λ (o : Option Object). elim o as (λ _. List NumberPair) [ None ↦ [] | Some o ↦ pairs_of o.value ]) h.is
-    ∙ ap pairs_of h.known.value in
-    (pair-written _ _ (pair_at int_lt h.pairs (kw x)) pair (sym (ap (λ ps. pair_at int_lt ps (kw x)) pairs) ∙ has)
-    (puts-numbers kl vl s.cut new q.handle q.at x y r each h.pairs h.map)).1.change.rest)

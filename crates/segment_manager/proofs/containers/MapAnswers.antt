@@ -1,36 +1,60 @@
 -- What the calls of seg_map ensure of the map at the place that was found, as the steps of the calls on the object's
 -- map.
-use Rattle.segment_manager.proofs.Common.{◌≡◌, sym, subst, ◌∙◌, ℤ, Bool, true, false, Option, Result, Ok, option_map}
-use Rattle.segment_manager.proofs.Common.{WindowState, Map, ScalarKind, Plain, Refusal, is_value, Key, Lookup, Put}
-use Rattle.segment_manager.proofs.Common.{Remove, literal_of, ErasesKey, PutsPair, FindsItem, FindsItemBefore}
-use Rattle.segment_manager.proofs.Common.{FindsLastItem, FindsValue, IsSomeMap, container_at, numbers_in, pair_at_end}
-use Rattle.segment_manager.proofs.Common.{answer_of_map, value_or_absent, AnswersWith, AnswersQueryOfKind, IsSegment}
-use Rattle.segment_manager.proofs.Common.{SegmentState, is_read_only, List, NumberPair, int_lt, item_of, truth_answer}
-use Rattle.segment_manager.proofs.containers.MapCalls.{TellsSafely, map-erased, map-got, map-put, map-told, put_result}
-use Rattle.segment_manager.proofs.containers.PairNumbers.{IsScalarOf, counts-numbers, erases-numbers, finds-back}
-use Rattle.segment_manager.proofs.containers.PairNumbers.{finds-item, finds-last, finds-value, puts-numbers, some-map}
-use Rattle.segment_manager.proofs.containers.PairNumbers.{counts-past, has-node, nodes-past, reads-node, reads-past}
-use Rattle.std.proofs.Common.{ℕ, length, map}
-use Rattle.segment_manager.specs.containers.Maps.{count_read, nodes_read, number_item, pairs_read, IsPairs}
-use Rattle.segment_manager.specs.containers.Walks.{HasPairNode, ReadsPairNode, pairs_at_kinds, pair_past}
-use Rattle.seg_map.specs.Listing.{HasNode, ListsNodes, ReadsNode, ReadsPairs}
-use Rattle.segment_manager.proofs.containers.MapCalls.{stands-map, map-listed}
-use Rattle.segment_manager.proofs.containers.ToChange.{seen-found}
-use Rattle.segment_manager.proofs.containers.Safely.{answered, Answered}
+use Rattle.std.proofs.Common.{length, ℕ}
 use Rattle.best_fit.specs.declared.places.Place.{Place}
-use Rattle.seg_map.specs.{Changing.CountsPairs, Places.last_pair}
+use Rattle.seg_map.specs.Places.{last_pair}
+use Rattle.seg_map.specs.{Changing.CountsPairs, Listing.HasNode, Listing.ListsNodes, Listing.ReadsNode}
+use Rattle.segment_manager.proofs.Common.{ErasesKey, Err, FindsItem, FindsItemBefore, FindsLastItem, FindsValue, IfErr}
+use Rattle.segment_manager.proofs.Common.{IsSegment, IsSomeMap, Key, List, Located, Lookup, Map, MatchOption, NoSpace}
+use Rattle.segment_manager.proofs.Common.{None, NumberPair, Object, Ok, Option, Plain, Put, PutsPair, Refusal, Remove}
+use Rattle.segment_manager.proofs.Common.{Result, ScalarKind, SegmentState, Some, UnchangedWhere, WindowState, []}
+use Rattle.segment_manager.proofs.Common.{answer_of_map, ap, container_at, false, int_lt, is_read_only, is_value}
+use Rattle.segment_manager.proofs.Common.{item_of, literal_of, none-some, numbers_in, option_map, pair_at, pair_at_end}
+use Rattle.segment_manager.proofs.Common.{pairs_at, pairs_of, refl, subst, sym, true, truth_answer, value_or_absent, ℤ}
+use Rattle.segment_manager.proofs.Common.{◌∙◌, ◌≡◌, AnswersQueryOfKind, AnswersWith, Bool, DenotesCurrent, Directory}
+use Rattle.segment_manager.proofs.bound.{Changes.Changed, Changes.leaves-bound, Places.container-here}
+use Rattle.segment_manager.proofs.containers.MapCalls.{HoldsPairs, TellsSafely, holds-pairs, map-erased, map-got}
+use Rattle.segment_manager.proofs.containers.MapCalls.{map-listed, map-put, map-told, put_result, stands-map}
+use Rattle.segment_manager.proofs.containers.PairNumbers.{IsScalarOf, counts-numbers, counts-past, erases-numbers}
+use Rattle.segment_manager.proofs.containers.PairNumbers.{finds-back, finds-item, finds-last, finds-value, has-node}
+use Rattle.segment_manager.proofs.containers.PairNumbers.{nodes-past, puts-numbers, reads-node, some-map}
+use Rattle.segment_manager.proofs.containers.{KeptContainers.keeps-cut, Safely.answered, ToChange.seen-found}
+use Rattle.segment_manager.specs.Keeping.{ChangesValue, LacksPair}
+use Rattle.segment_manager.specs.containers.Maps.{IsPairs, count_read, nodes_read}
+use Rattle.segment_manager.specs.containers.Walks.{HasPairNode, ReadsPairNode, pair_past, pairs_at_kinds}
+use Rattle.segment_manager.specs.objects.BoundObjects.{IsBound, container_of, key_of}
 
 -- a key that is a value is a number of its kind
 as-value : {T : Type 0} {j : ScalarKind} {tp : Plain T} {w : T → ℤ} → IsScalarOf j tp w → (x : T) → tp.is_value x ≡ true
     → is_value j (w x) ≡ true
 as-value l x e = sym (l.values x) ∙ e
 
+-- a put fails for want of space alone
+put-error : {E : Type 0} (r : Result Bool E) → IfErr (put_result r) (λ why. why ≡ NoSpace)
+put-error (Ok b) = tt
+put-error (Err e) = refl
+
+without-pair : (P : Type 0) (Q : NumberPair → Type 0) (o : Option NumberPair) → o ≡ None → MatchOption o P Q → P
+without-pair P Q None e m = m
+without-pair P Q (Some q) e m = absurd (none-some q (sym e))
+
+pair-written : (P : Type 0) (Q : NumberPair → Type 0) (o : Option NumberPair) (p : NumberPair) → o ≡ Some p
+    → MatchOption o P Q → Q p
+pair-written P Q None p e m = absurd (none-some p e)
+pair-written P Q (Some q) p e m = let same : q ≡ p = cc in subst Q same m
+
+-- the segment with its heap
+pub in-heap : {h : WindowState} {t : SegmentState} → h ≡ t.cut → (record t { cut = h }) ≡ t
+in-heap {t = t} e = λ i. record t { cut = e i }
+
 module _ {K V : Type 0} {k v : ScalarKind} {kp : Plain K} {vp : Plain V} {kw : K → ℤ} {vw : V → ℤ}
-    (kl : IsScalarOf k kp kw) (vl : IsScalarOf v vp vw) {s t : SegmentState} (view : s ≡ t) (key : Key) {p q : Place}
-    (same : q ≡ p) (b : IsSegment s.cut.bytes) (found : AnswersWith t (λ d. container_at d key (Map k v)) (Ok p)) where
+    (kl : IsScalarOf k kp kw) (vl : IsScalarOf v vp vw) {s t : SegmentState} (view : s ≡ t) {o : Located} {q : Place}
+    (bound : IsBound (Map k v) o t) (same : q ≡ container_of o) (b : IsSegment s.cut.bytes) where
+  abbrev key : Key
+  key = key_of o
+
   found-there : AnswersWith s (λ d. container_at d key (Map k v)) (Ok q)
-  found-there = subst (λ (r : Place). AnswersWith s (λ d. container_at d key (Map k v)) (Ok r)) (sym same)
-      (seen-found s t view key (Map k v) p found)
+  found-there = seen-found s t view key (Map k v) q (container-here bound same)
 
   -- there is a map of the types at the place
   pub some-there : IsSomeMap kp vp s.cut.bytes q.handle q.at
@@ -60,20 +84,6 @@ module _ {K V : Type 0} {k v : ScalarKind} {kp : Plain K} {vp : Plain V} {kw : K
       subst (λ (b : Bool). AnswersWith t (λ d. answer_of_map d key k v (pair_past b (kw x))) (Ok (numbers_in kw vw r)))
       (sym is) (told-there (pair_past above (kw x)) (numbers_in kw vw r)
       (finds-item kl vl s.cut.bytes q.handle q.at above x r each))
-
-  module _ (past : Bool) (x : K) (places : ℕ) (list list' : List (K × V)) (n : ℕ)
-      (each : ReadsPairs kp vp s.cut.bytes q past x places list list' n) where
-    -- the number of pairs that are read is the directory's
-    pub count-there : AnswersWith t (λ d. answer_of_map d key k v (count_read past (kw x) places)) (Ok n)
-    count-there = told-there (count_read past (kw x) places) n
-        (counts-past kl vl s.cut.bytes q.handle q.at past x places n (λ ps h. (each ps h).0))
-
-    -- the pairs that are read are the directory's
-    pub list-there : AnswersWith t (λ d. answer_of_map d key k v (pairs_read past (kw x) places
-        (map (number_item kw vw) list))) (Ok (map (number_item kw vw) list'))
-    list-there = told-there (pairs_read past (kw x) places (map (number_item kw vw) list))
-        (map (number_item kw vw) list')
-        (reads-past kl vl s.cut.bytes q.handle q.at past x places list list' n each)
 
   module _ (past : Bool) (x : K) (list list' : List ℕ) (n : ℕ)
       (each : ListsNodes kp vp s.cut.bytes q past x list list' n) where
@@ -128,17 +138,51 @@ module _ {K V : Type 0} {k v : ScalarKind} {kp : Plain K} {vp : Plain V} {kw : K
     writing-there : is_read_only s.mode ≡ false
     writing-there = subst (λ (u : SegmentState). is_read_only u.mode ≡ false) (sym view) writing
 
-    -- as the call answers it
+    -- the pairs of the object before the call
+    listed : (d : Directory) → DenotesCurrent s.cut.bytes d → HoldsPairs s.cut.bytes d key k v q
+    listed d l = holds-pairs s.cut.bytes d key k v q l.denotes (found-there.answers d l)
+
+    pairs-listed : (d : Directory) (l : DenotesCurrent s.cut.bytes d) → pairs_at d key ≡ (listed d l).pairs
+    pairs-listed d l =
+        let h = listed d l in ap (λ (o : Option Object). elim o as (λ _. List NumberPair)
+        [ None ↦ [] | Some o ↦ pairs_of o.value ]) h.is ∙ ap pairs_of h.known.value
+
+    -- a pair put over another one needs no space
+    put-again : {E : Type 0} (x : K) (y : V) (r : Result Bool E) → PutsPair kp vp s.cut new q.handle q.at x y r
+        → ChangesValue t (record s { cut = new }) key k (kw x) v
+    put-again x y r each = subst (λ (u : SegmentState). ChangesValue u (record s { cut = new }) key k (kw x) v) view
+        (λ d l pair has.
+        let h = listed d l in
+        (pair-written _ _ (pair_at int_lt h.pairs (kw x)) pair
+        (sym (ap (λ ps. pair_at int_lt ps (kw x)) (pairs-listed d l)) ∙ has)
+        (puts-numbers kl vl s.cut new q.handle q.at x y r each h.pairs h.map)).1.change.rest)
+
+    -- without the key the segment stays
+    none-erased : (x : K) (r : Bool) → ErasesKey kp vp s.cut new q.handle q.at x r
+        → UnchangedWhere t (record s { cut = new }) (LacksPair key (kw x))
+    none-erased x r each = keeps-cut s t view new (LacksPair key (kw x)) (λ d l lacks.
+        let h = listed d l in
+        (without-pair _ _ (pair_at int_lt h.pairs (kw x))
+        (sym (ap (λ ps. pair_at int_lt ps (kw x)) (pairs-listed d l)) ∙ lacks)
+        (erases-numbers kl vl s.cut new q.handle q.at x r each h.pairs h.map)).1)
+
+    -- a pair that was put is the directory's
     pub put-there : {E : Type 0} (x : K) (y : V) (r : Result Bool E) (out : Result Bool Refusal) → out ≡ put_result r
         → kp.is_value x ≡ true → vp.is_value y ≡ true → PutsPair kp vp s.cut new q.handle q.at x y r
-        → Answered truth_answer s t new key (Map k v) (Put key (literal_of k (kw x)) (literal_of v (vw y))) out
-    put-there x y r out told good fair each = answered s t view b new key (Map k v) _ out
+        → Changed (Map k v) o s t new (λ key. Put key (literal_of k (kw x)) (literal_of v (vw y))) truth_answer
+        (λ why. why ≡ NoSpace) (ChangesValue t (record s { cut = new }) key k (kw x) v) out
+    put-there x y r out told good fair each = leaves-bound view bound writing b new
+        (λ key. Put key (literal_of k (kw x)) (literal_of v (vw y))) refl
+        (subst (λ q. IfErr q (λ why. why ≡ NoSpace)) (sym told) (put-error r)) (put-again x y r each)
+        (answered s t view b new key (Map k v) _ out
         (subst (TellsSafely s new key (Map k v) (Put key (literal_of k (kw x)) (literal_of v (vw y)))) (sym told)
         (map-put s key k v q b found-there new writing-there (kw x) (vw y) r (as-value kl x good) (as-value vl y fair)
-        (puts-numbers kl vl s.cut new q.handle q.at x y r each)))
+        (puts-numbers kl vl s.cut new q.handle q.at x y r each))))
 
     -- the erased pair is the directory's
     pub erased-there : (x : K) (r : Bool) → kp.is_value x ≡ true → ErasesKey kp vp s.cut new q.handle q.at x r
-        → Answered truth_answer s t new key (Map k v) (Remove key (literal_of k (kw x))) (Ok r)
-    erased-there x r good each = answered s t view b new key (Map k v) _ (Ok r) (map-erased s key k v q b found-there
-        new writing-there (kw x) r (as-value kl x good) (erases-numbers kl vl s.cut new q.handle q.at x r each))
+        → Changed (Map k v) o s t new (λ key. Remove key (literal_of k (kw x))) truth_answer (λ why. ⊥)
+        (UnchangedWhere t (record s { cut = new }) (LacksPair key (kw x))) (Ok r)
+    erased-there x r good each = leaves-bound view bound writing b new (λ key. Remove key (literal_of k (kw x))) refl tt
+        (none-erased x r each) (answered s t view b new key (Map k v) _ (Ok r) (map-erased s key k v q b found-there
+        new writing-there (kw x) r (as-value kl x good) (erases-numbers kl vl s.cut new q.handle q.at x r each)))

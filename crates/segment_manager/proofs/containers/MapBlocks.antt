@@ -1,18 +1,17 @@
 -- The blocks of an object and of its map's pairs: each is in use once, and the other blocks stay if pairs are put or
 -- erased.
-use Rattle.segment_manager.proofs.Common.{◌≡◌, refl, sym, ap, subst, ◌∙◌, ℕ, ◌≢◌, ℤ, Bool, true, false, ◌||◌, ◌==◌, not}
-use Rattle.segment_manager.proofs.Common.{Option, Some, None, List, [], ◌∷◌, ◌++◌, map, arith, if◌then◌else◌, IsTrue}
-use Rattle.segment_manager.proofs.Common.{find, int_lt, AllByRecursion, ne_eqb, Extent, LiveSet, handle, is_proper}
-use Rattle.segment_manager.proofs.Common.{is_key, pair_at, put_pair, remove_pair, NumberPair, nodes_of_pairs, Object}
-use Rattle.segment_manager.proofs.Common.{Directory, extents_of, live, value_extents}
 use Rattle.link_tree.specs.Nodes.{is_in}
 use Rattle.best_fit.specs.Fit.{insert}
 use Rattle.seg_types.specs.ScalarLaws.{total}
-use Rattle.segment_manager.proofs.{directory.LiveSet.IsIn, directory.LiveSet.live-split, objects.Regrown.rest}
-use Rattle.segment_manager.proofs.{objects.Regrown.with_extents}
-use Rattle.segment_manager.proofs.directory.ExtentOrder.{IsFoundIn, found-each, Apart, Differs, IsFresh, Rising}
-use Rattle.segment_manager.proofs.directory.ExtentOrder.{all_of-inserted}
-use Rattle.segment_manager.proofs.directory.ExtentOrder.{inserted, live-rises, rising-insert, rising-inserted}
+use Rattle.segment_manager.proofs.Common.{IsTrue, List, LiveSet, None, NumberPair, Object, Option, Some, [], ap, arith}
+use Rattle.segment_manager.proofs.Common.{extents_of, false, find, handle, if◌then◌else◌, int_lt, is_key, is_proper}
+use Rattle.segment_manager.proofs.Common.{live, map, ne_eqb, nodes_of_pairs, not, pair_at, put_pair, refl, remove_pair}
+use Rattle.segment_manager.proofs.Common.{subst, sym, true, value_extents, ℕ, ℤ}
+use Rattle.segment_manager.proofs.Common.{◌++◌, ◌==◌, ◌||◌, ◌∙◌, ◌∷◌, ◌≡◌, ◌≢◌, AllByRecursion, Bool, Directory, Extent}
+use Rattle.segment_manager.proofs.directory.ExtentOrder.{Apart, Differs, IsFoundIn, IsFresh, Rising, all_of-inserted}
+use Rattle.segment_manager.proofs.directory.ExtentOrder.{found-each, inserted, live-rises, rising-insert}
+use Rattle.segment_manager.proofs.directory.{ExtentOrder.rising-inserted, LiveSet.IsIn, LiveSet.live-split}
+use Rattle.segment_manager.proofs.objects.Regrown.{rest, with_extents}
 
 -- ---- lists that are apart
 

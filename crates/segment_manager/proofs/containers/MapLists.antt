@@ -1,14 +1,13 @@
 -- The pairs of a key's map of kinds: functions of them, and the order of their map keys.
-use Rattle.segment_manager.proofs.Common.{◌≡◌, sym, ap, subst, ◌∙◌, ℕ, ℤ, true, false, Some, None, Ok, Err, List, []}
-use Rattle.segment_manager.proofs.Common.{Map, Key, Option, NotFound, same_kind, is_rising, Directory}
-use Rattle.segment_manager.proofs.Common.{object_at, pair_from, first_of, Result, int_lt, current}
-use Rattle.segment_manager.proofs.Common.{Refusal, lowest, item_of, Denotes, Object, kind_of, told_of, pairs_of}
-use Rattle.segment_manager.proofs.Common.{MatchResult, option_map, ScalarKind, WrongKind, NumberPair}
-use Rattle.segment_manager.proofs.containers.Refilled.{by-kind, told-none, told-some}
-use Rattle.segment_manager.proofs.objects.ElementLists.{list-of, none-listed}
+use Rattle.segment_manager.proofs.Common.{NotFound, NumberPair, Object, Ok, Option, Refusal, Result, ScalarKind, Some}
+use Rattle.segment_manager.proofs.Common.{WrongKind, [], answer_of_map, ap, current, false, first_of, int_lt, is_rising}
+use Rattle.segment_manager.proofs.Common.{item_of, kind_of, lowest, object_at, option_map, pair_from, pairs_of}
+use Rattle.segment_manager.proofs.Common.{same_kind, subst, sym, told_of, true, ℕ, ℤ}
+use Rattle.segment_manager.proofs.Common.{◌∙◌, ◌≡◌, Denotes, Directory, Err, Key, List, Map, MatchResult, None}
 use Rattle.segment_manager.proofs.containers.PairWalks.{good-value, rising-if, starts, told-of-them}
-use Rattle.segment_manager.proofs.{Common.answer_of_map, containers.AnyStorage.IsOfKindAt}
-use Rattle.segment_manager.proofs.{objects.Here.standing, containers.MapSteps.map-only}
+use Rattle.segment_manager.proofs.containers.Refilled.{by-kind, told-none, told-some}
+use Rattle.segment_manager.proofs.containers.{AnyStorage.IsOfKindAt, MapSteps.map-only}
+use Rattle.segment_manager.proofs.objects.{ElementLists.list-of, ElementLists.none-listed, Here.standing}
 use Rattle.segment_manager.specs.containers.Walks.{pairs_at_kinds}
 
 refused-told : {A : Type 0} (P : A → Type 0) (Q : Type 0) (r : Result A Refusal) (why : Refusal) → r ≡ Err why → Q

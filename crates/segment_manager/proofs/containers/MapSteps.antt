@@ -1,25 +1,24 @@
 -- A map as the value of an object: its place for the calls of seg_map, and the effect of these calls on the object.
 use Rattle.segment_manager.proofs.Common as common
-use common.{◌≡◌, refl, sym, ◌∙◌, true, ◌&&◌, Some, None, List, SameBytes, Value, Pairs, live, ap, and_from, bytes_of}
-use common.{Directory, is_object, value_len, IsValueAt, exchanged, subst, ℕ, arith, int_lt, Memory, Extent, handle}
-use common.{KeepsBlocks, PutsNewPair, Object, padded, ◌+◌, ◌≤◌, ◌≢◌, inl, ℤ, [], ◌∷◌, map, WindowState, Map, length}
-use common.{IsTrue, LiveSet, EncodesLiveSet, live_of, pair_at, kind_of, Denotes, changed, AllByRecursion}
-use common.{is_number_pair, nodes_of_pairs, is_good_value, value_extents, list_all, extent_at, same_kind, is_rising}
-use common.{NumberPair, numbers_of, SameSpread, current, ErasesPair, put_pair, HoldsMap, IsPairIn, count_of, head_len}
-use common.{IsObjectInBlock, SameBlockExcept, lay_out_one, ScalarKind, KeepsOutsideMap, OverwritesPair, remove_pair}
-use Rattle.segment_manager.proofs.containers.MapBlocks.{BlocksInUse, PartedNodes, no-node, nodes, one-by_handle}
-use Rattle.segment_manager.proofs.containers.MapBlocks.{put-parted, removed-parted}
-use Rattle.segment_manager.proofs.containers.Contained.{start-place, good-with}
-use Rattle.segment_manager.proofs.objects.Rewritten.{object-held, value_start, with_value}
-use Rattle.segment_manager.proofs.objects.Exchanged.{all-but-beside, Exchange, between, live-exchanged, others-beside}
-use Rattle.segment_manager.proofs.directory.HeapCalls.{denotes-heap, denotes-live, object-at}
-use Rattle.segment_manager.proofs.{objects.Standings.standing-room, containers.ItemSteps.one-kind, objects.Regrown.rest}
-use Rattle.segment_manager.proofs.{objects.Regrown.InPlace, directory.OneObject.denotes-replaced}
-use Rattle.segment_manager.proofs.{directory.ExtentOrder.Differs, directory.ExtentOrder.Apart}
-use Rattle.segment_manager.proofs.{directory.ExtentOrder.IsFoundIn, directory.Frame.object-roomy}
-use Rattle.segment_manager.proofs.{directory.Frame.IsRoomy, directory.IndexedParts.IsLike, directory.LiveSet.IsIn}
 use Rattle.raw_region.proofs.Facts.{first, second}
 use Rattle.best_fit.proofs.Laws.{spread-refl}
+use Rattle.segment_manager.proofs.containers.Contained.{good-with, start-place}
+use Rattle.segment_manager.proofs.containers.MapBlocks.{BlocksInUse, PartedNodes, no-node, nodes, one-by_handle}
+use Rattle.segment_manager.proofs.containers.{ItemSteps.one-kind, MapBlocks.put-parted, MapBlocks.removed-parted}
+use Rattle.segment_manager.proofs.directory.ExtentOrder.{Apart, Differs, IsFoundIn}
+use Rattle.segment_manager.proofs.directory.HeapCalls.{denotes-heap, denotes-live, object-at}
+use Rattle.segment_manager.proofs.directory.{Frame.IsRoomy, Frame.object-roomy, OneObject.denotes-replaced}
+use Rattle.segment_manager.proofs.directory.{IndexedParts.IsLike, LiveSet.IsIn}
+use Rattle.segment_manager.proofs.objects.Exchanged.{Exchange, all-but-beside, between, live-exchanged, others-beside}
+use Rattle.segment_manager.proofs.objects.Rewritten.{object-held, value_start, with_value}
+use Rattle.segment_manager.proofs.objects.{Regrown.InPlace, Regrown.rest, Standings.standing-room}
+use common.{HoldsMap, IsObjectInBlock, IsPairIn, IsTrue, IsValueAt, KeepsBlocks, KeepsOutsideMap, List, LiveSet, Map}
+use common.{Memory, None, NumberPair, Object, OverwritesPair, Pairs, PutsNewPair, SameBlockExcept, SameBytes}
+use common.{SameSpread, ScalarKind, Some, Value, WindowState, [], and_from, ap, arith, bytes_of, changed, count_of}
+use common.{current, exchanged, extent_at, handle, head_len, inl, int_lt, is_good_value, is_number_pair, is_object}
+use common.{is_rising, kind_of, lay_out_one, length, list_all, live, live_of, map, nodes_of_pairs, numbers_of, padded}
+use common.{pair_at, put_pair, refl, remove_pair, same_kind, subst, sym, true, value_extents, value_len, ℕ, ℤ}
+use common.{◌&&◌, ◌+◌, ◌∙◌, ◌∷◌, ◌≡◌, ◌≢◌, ◌≤◌, AllByRecursion, Denotes, Directory, EncodesLiveSet, ErasesPair, Extent}
 
 -- ---- values of the kind of a map
 

@@ -2,27 +2,26 @@
 -- calls on the object, a vector of numbers or a text.
 use Rattle.segment_manager.proofs.Common as common
 use Rattle.seg_types.specs.Commands as asked
-use common.{◌≡◌, shrunk_backing, IsValueAt, Directory, value_len, IsSegment, DenotesCurrent, HasEnough, has_sizes}
-use common.{UnchangedWhere, ap, ℕ, ◌+◌, ◌*◌, ◌∙◌, ◌≤◌, Err, Ok, [], sym, take, true, WindowState, Kind, Key, Done, live}
-use common.{Plan, arith, Some, false, refl, subst, BackingArray, Place, Clear, Value, Bytes, Pairs, Texts, Reply}
-use common.{SegmentState, Option, IsTrue, ScalarKind, RefillsContainer, has_values, storage_of, with_items, with_table}
-use common.{command_of, grown_backing, List, LiveSet, MapKind, Refusal, NoSpace, Command, Reserve, Refused, Denotes}
-use common.{Numbers, kind_of, emptied, None, length, Memory, handle, IsContainer, Change, Shrink, Object, padded}
-use common.{perform, AnswersWith, changed, effect, Result, current, word_at, has_room, live_of, no_backing, place_at}
-use common.{Contents, sizes_of, Elements, IsObjectInBlock, bytes_of, StringsKind, container_at, contents_of, NotFound}
-use common.{sizes_at, is_read_only, StepsSafely, has_storage}
-use Rattle.segment_manager.proofs.containers.Contained.{contents-fit, contents-stand, of-contents, start-place}
-use Rattle.segment_manager.proofs.containers.Refilled.{HoldsAt, holds-at, refill-steps_of_kind, room-asked, then_room}
-use Rattle.segment_manager.proofs.containers.ContentPlans.{clear-plan, reserve-plan, shrink-plan}
-use Rattle.segment_manager.proofs.directory.CommandSteps.{by_no_change_of_kind, step_of_kind-found, open-writing}
-use Rattle.segment_manager.specs.containers.Stored.{ChangesElements, IsElements, each_of}
-use Rattle.segment_manager.proofs.containers.KeptContainers.{enough-places, keeps-cut}
-use Rattle.segment_manager.proofs.objects.Standings.{standing-room, standing-short}
-use Rattle.segment_manager.proofs.{directory.Frame.object-roomy, containers.ToChange.seen-found}
-use Rattle.segment_manager.proofs.{objects.Rewritten.value_start, objects.Here.standing, containers.ItemSteps.one-kind}
-use Rattle.segment_manager.proofs.{containers.Safely.done-so, containers.Safely.stays, directory.HeapCalls.denotes-live}
 use Rattle.best_fit.proofs.Laws.{room-less}
-use Rattle.seg_vector.specs.{Elements.ShrinksStorageOk, Elements.RewritesElements, Containers.ReservesStorageOk}
+use Rattle.seg_vector.specs.{Containers.ReservesStorageOk, Elements.RewritesElements, Elements.ShrinksStorageOk}
+use Rattle.segment_manager.proofs.containers.Contained.{contents-fit, contents-stand, of-contents, start-place}
+use Rattle.segment_manager.proofs.containers.ContentPlans.{clear-plan, reserve-plan, shrink-plan}
+use Rattle.segment_manager.proofs.containers.KeptContainers.{enough-places, keeps-cut}
+use Rattle.segment_manager.proofs.containers.Refilled.{HoldsAt, holds-at, refill-steps_of_kind, room-asked, then_room}
+use Rattle.segment_manager.proofs.containers.{ItemSteps.one-kind, Safely.done-so, Safely.stays, ToChange.seen-found}
+use Rattle.segment_manager.proofs.directory.CommandSteps.{by_no_change_of_kind, open-writing, step_of_kind-found}
+use Rattle.segment_manager.proofs.directory.{Frame.object-roomy, HeapCalls.denotes-live}
+use Rattle.segment_manager.proofs.objects.{Here.standing, Rewritten.value_start, Standings.standing-room}
+use Rattle.segment_manager.specs.containers.Stored.{ChangesElements, IsElements, each_of}
+use common.{DenotesCurrent, Directory, Done, Elements, Err, HasEnough, IsContainer, IsObjectInBlock, IsSegment, IsTrue}
+use common.{IsValueAt, Key, Kind, List, LiveSet, MapKind, Memory, NoSpace, None, NotFound, Numbers, Object, Ok, Option}
+use common.{Pairs, Place, Plan, RefillsContainer, Refusal, Refused, Reply, Reserve, Result, ScalarKind, SegmentState}
+use common.{Shrink, Some, StepsSafely, StringsKind, Texts, UnchangedWhere, Value, WindowState, [], ap, arith, bytes_of}
+use common.{changed, command_of, container_at, contents_of, current, effect, emptied, false, grown_backing, handle}
+use common.{has_room, has_sizes, has_storage, has_values, is_read_only, kind_of, length, live, live_of, no_backing}
+use common.{padded, perform, place_at, refl, shrunk_backing, sizes_at, sizes_of, storage_of, subst, sym, take, true}
+use common.{value_len, with_items, with_table, word_at, ℕ}
+use common.{◌*◌, ◌+◌, ◌∙◌, ◌≡◌, ◌≤◌, AnswersWith, BackingArray, Bytes, Change, Clear, Command, Contents, Denotes}
 
 -- ---- the words of a container
 
@@ -61,15 +60,6 @@ module _ {s t : SegmentState} (view : s ≡ t) (key : Key) (kind : Kind) (p : Pl
 
     stands : IsObjectInBlock s.cut.bytes (handle at-place.object.extent) at-place.object
     stands = standing s.cut.bytes d key at-place.object l.denotes at-place.is
-
-  -- they are near the front of the object's block, and within it
-  pub near-front : IsSegment s.cut.bytes → p.at + 24 ≤ 4096
-  near-front b =
-      let short : length (at-place b.0 b.1).object.name ≤ 255 =
-      standing-short s.cut.bytes _ (at-place b.0 b.1).object (stands b.0 b.1) in
-      let at : 16 + padded (length (at-place b.0 b.1).object.name) ≡ p.at =
-      ap (λ (q : Place). q.at) (at-place b.0 b.1).at in
-      omega (arith, short, at)
 
   -- the words of a container have room in its block
   pub word-room : IsSegment s.cut.bytes → (n : ℕ) → n ≤ 16

@@ -1,26 +1,25 @@
 -- Maps of values of two types as maps of their numbers: lists of pairs, maps at a place, and the contracts of seg_map
 -- for them.
 use Rattle.segment_manager.proofs.Common as common
-use common.{◌≡◌, sym, ap, ◌∙◌, ◌+◌, not, Some, None, Ok, Err, List, [], ◌∷◌, map, find, WindowState, HasBytesAt, Node}
-use common.{PutsPair, refl, Bool, true, false, ◌&&◌, ◌||◌, Memory, handle, place, serves, Plain, ErasesKey, PutsNoSpace}
-use common.{PutsNewPair, is_key, subst, bytes_of, IsTreeOf, is_value, spelling, ErasesPair, ReleasesMap, node_len}
-use common.{put_pair, FindsItem, IsSomeMap, ℕ, MatchResult, option_map, length-map, ExchangesBlocks, KeepsOutsideMap}
-use common.{remove_pair, FindsLastItem, value_of_pair, ℤ, ScalarKind, ChangesBytes, OverwritesPair, is_rising}
-use common.{NumberPair, FindsValue, first_pair, numbers_in, numbers_of, Option, Result, IsTrue, int_lt, current}
-use common.{LiveSet, live_of, size_of, pair_at, HoldsMap, IsPairIn, item_of, if◌then◌else◌, MatchOption, AllByRecursion}
-use common.{IsNumberPairAt, is_number_pair, FindsItemBefore, nodes_of_pairs, length}
-use Rattle.raw_region.proofs.Facts.{first, second}
-use mathlib.Core.List.{reverse}
-use Rattle.std.proofs.Common.{zero, suc, ◌++◌, take, drop, min, arith, inl, inr}
-use Rattle.std.proofs.lemmas.Bool.{cases_lt}
-use Rattle.std.proofs.lemmas.List.{map-append, take_all}
+use Rattle.std.proofs.Common.{◌++◌, arith, drop, inl, inr, min, suc, take, zero}
+use Rattle.std.proofs.lemmas.{Bool.cases_lt, List.take_all}
 use Rattle.std.specs.List.{filter}
+use Rattle.raw_region.proofs.Facts.{first, second}
 use Rattle.link_tree.specs.Nodes.{is_in}
-use Rattle.segment_manager.specs.containers.Maps.{count_read, nodes_read, number_item, pairs_read}
-use Rattle.seg_map.specs.Listing.{HasNode, ListsNodes, ReadsNode, ReadsPairs, pairs_past, with_nodes, with_pairs}
+use Rattle.seg_map.proofs.Laws.{last_mapped, map_reversed}
+use Rattle.seg_map.specs.Listing.{HasNode, ListsNodes, ReadsNode, pairs_past, with_nodes}
 use Rattle.seg_map.specs.Places.{final_pair, is_passed, last_pair, pair_node}
 use Rattle.seg_map.specs.{Changing.CountsPairs, Changing.FreesAllPairs, Map.IsPairAt, Map.Pair, Map.is_pair}
-use Rattle.seg_map.proofs.Laws.{last_mapped, map_reversed}
+use Rattle.segment_manager.specs.containers.Maps.{count_read, nodes_read}
+use common.{ExchangesBlocks, FindsItem, FindsItemBefore, FindsLastItem, FindsValue, HasBytesAt, HoldsMap}
+use common.{IsNumberPairAt, IsPairIn, IsSomeMap, IsTreeOf, IsTrue, KeepsOutsideMap, List, LiveSet, MatchOption}
+use common.{MatchResult, Memory, Node, None, NumberPair, Ok, Option, OverwritesPair, Plain, PutsNewPair, PutsNoSpace}
+use common.{PutsPair, ReleasesMap, Result, ScalarKind, Some, WindowState, [], ap, bytes_of, current, false, find}
+use common.{first_pair, handle, if◌then◌else◌, int_lt, is_key, is_number_pair, is_rising, is_value, item_of, length}
+use common.{length-map, live_of, map, node_len, nodes_of_pairs, not, numbers_in, numbers_of, option_map, pair_at, place}
+use common.{put_pair, refl, remove_pair, serves, size_of, spelling, subst, sym, true, value_of_pair, ℕ, ℤ}
+use common.{◌&&◌, ◌+◌, ◌||◌, ◌∙◌, ◌∷◌, ◌≡◌, AllByRecursion, Bool, ChangesBytes, ErasesKey, ErasesPair, Err}
+use mathlib.Core.List.{reverse}
 
 -- the laws of a type for its values and their numbers
 pub record IsScalarOf {T : Type 0} (k : ScalarKind) (p : Plain T) (w : T → ℤ) : Type 0 where
@@ -72,11 +71,6 @@ take-made f zero xs = refl
 take-made f (suc n) [] = refl
 take-made f (suc n) (x ∷ xs) = ap (λ ys. f x ∷ ys) (take-made f n xs)
 
-drop-made : {A B : Type 0} (f : A → B) (n : ℕ) (xs : List A) → drop n (map f xs) ≡ map f (drop n xs)
-drop-made f zero xs = refl
-drop-made f (suc n) [] = refl
-drop-made f (suc n) (x ∷ xs) = drop-made f n xs
-
 -- as many as there are and no more than there are places
 take-places : {A : Type 0} (n : ℕ) (xs : List A) → take (min n (length xs)) xs ≡ take n xs
 take-places n xs =
@@ -115,19 +109,6 @@ module _ {K V : Type 0} {k v : ScalarKind} {kp : Plain K} {vp : Plain V} {kw : K
       → first_pair int_lt past (kw x) (number_pairs ps) ≡ option_map number_pair (first_pair kp.order past x ps)
   numbers-first past x ps = find-made number_pair (λ p. not (is_passed kp.order past x p)) (λ p. not (is_passed int_lt
       past (kw x) p)) (λ p i. not (if past then not (sym (kl.ordered x p.key) i) else sym (kl.ordered p.key x) i)) ps
-
-  -- a list with pairs, as numbers
-  with-numbers : (ps : List (Pair K V)) (list : List (K × V))
-      → map (number_item kw vw) (with_pairs ps list) ≡ with_pairs (number_pairs ps) (map (number_item kw vw) list)
-  with-numbers ps list = map-append (number_item kw vw) (map item_of ps) (drop (length ps) list)
-      ∙ ap (λ xs. xs ++ map (number_item kw vw) (drop (length ps) list)) (items ps)
-      ∙ ap (λ xs. map item_of (number_pairs ps) ++ xs) (sym (drop-made (number_item kw vw) (length ps) list))
-      ∙ ap (λ m. map item_of (number_pairs ps) ++ drop m (map (number_item kw vw) list))
-      (sym (length-map ps number_pair))
-    where
-      items : (qs : List (Pair K V)) → map (number_item kw vw) (map item_of qs) ≡ map item_of (number_pairs qs)
-      items [] = refl
-      items (q ∷ qs) = ap (λ xs. (kw q.key, vw q.value) ∷ xs) (items qs)
 
   -- a list with the nodes of pairs
   with-nodes : (ps : List (Pair K V)) (list : List ℕ) → with_nodes (number_pairs ps) list ≡ with_nodes ps list
@@ -317,29 +298,13 @@ module _ {K V : Type 0} {k v : ScalarKind} {kp : Plain K} {vp : Plain V} {kw : K
         → FindsLastItem (numbers_of k) (numbers_of v) b h at (numbers_in kw vw r)
     finds-last = finds final_pair final_pair (λ ps. last_mapped number_pair None ps)
 
-    -- how many pairs are read into a list
+    -- how many pairs are listed
     pub counts-past : (past : Bool) (x : K) (places n : ℕ)
         → ((ps : List (Pair K V)) → HoldsMap kp vp b h at ps → n ≡ min places (length (pairs_past kp.order past x ps)))
         → (qs : List NumberPair) → HoldsNumbers b h at qs → n ≡ count_read past (kw x) places qs
     counts-past past x places n each = of-values (λ qs. n ≡ count_read past (kw x) places qs)
         (λ ps s. each ps s ∙ ap (min places) (sym (ap length (numbers-past past x ps)
         ∙ length-map (pairs_past kp.order past x ps) number_pair)))
-
-    -- the pairs that are read into a list, as numbers
-    pub reads-past : (past : Bool) (x : K) (places : ℕ) (list list' : List (K × V)) (n : ℕ)
-        → ReadsPairs kp vp b (record { handle = h; at = at }) past x places list list' n → (qs : List NumberPair)
-        → HoldsNumbers b h at qs
-        → map (number_item kw vw) list' ≡ pairs_read past (kw x) places (map (number_item kw vw) list) qs
-    reads-past past x places list list' n each =
-        of-values (λ qs. map (number_item kw vw) list'
-        ≡ pairs_read past (kw x) places (map (number_item kw vw) list) qs)
-        (λ ps s.
-        let them = pairs_past kp.order past x ps in
-        let first : take n them ≡ take places them = ap (λ m. take m them) (each ps s).0 ∙ take-places places them in
-        ap (map (number_item kw vw)) ((each ps s).1 ∙ ap (λ ts. with_pairs ts list) first)
-        ∙ with-numbers (take places them) list
-        ∙ sym (ap (λ ts. with_pairs ts (map (number_item kw vw) list)) (ap (take places) (numbers-past past x ps)
-        ∙ take-made number_pair places them)))
 
     -- the nodes that are listed, of pairs of numbers
     pub nodes-past : (past : Bool) (x : K) (list list' : List ℕ) (n : ℕ)

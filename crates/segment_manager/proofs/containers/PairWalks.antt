@@ -1,17 +1,75 @@
 -- A walk over the pairs of a key's object, of any kinds: the result of each call, and that it omits no pair.
-use Rattle.segment_manager.proofs.Common as common
-use common.{◌≡◌, refl, sym, ap, subst, ◌∙◌, ℕ, zero, suc, ◌+◌, ℤ, Bool, true, ◌&&◌, Option, Some, None, Result, Ok}
-use common.{Err, List, [], ◌∷◌, ◌++◌, slice_get, arith, IsTrue, int_lt, option_map, list_all, eq-eqb, current, Node}
-use common.{ObjectRole, serves, Map, ScalarKind, Refusal, code_of, is_kind_of, is_value, lowest, same_kind}
-use common.{size_of, Key, is_rising, node_len, NumberPair, is_number_pair, item_of}
-use common.{Denotes, Value, Pairs, Object, Directory, has_good_name, is_good_value, is_object, kind_of, object_at}
-use common.{object_len, pair_above, pair_from, told_of, answer_of_map, AnswersWith, SegmentState, DenotesCurrent, IsMap}
-use common.{first_of, item_of_kinds, pairs_at, pairs_of}
-use Rattle.segment_manager.proofs.containers.AnyStorage.{IsOfKindAt, kind-told}
-use Rattle.segment_manager.proofs.containers.MapWalks.{walk-goes_on, walk-starts}
-use Rattle.segment_manager.proofs.{objects.Here.standing, containers.MapSteps.map-only, containers.Refilled.told-some}
+use Rattle.std.proofs.lemmas.Bool.{both_ways}
+use Rattle.std.specs.Prelude.{int_le}
 use Rattle.raw_region.proofs.Facts.{first, second}
+use Rattle.seg_types.specs.{Kinds.highest, ScalarLaws.irreflexive}
+use Rattle.segment_manager.proofs.Common.{Directory, Err, IsMap, IsTrue, Key, List, Map, Node, None, NumberPair, Object}
+use Rattle.segment_manager.proofs.Common.{ObjectRole, Ok, Option, Pairs, Refusal, Result, ScalarKind, SegmentState}
+use Rattle.segment_manager.proofs.Common.{Some, Value, [], answer_of_map, ap, arith, code_of, current, eq-eqb, false}
+use Rattle.segment_manager.proofs.Common.{first_of, first_pair, has_good_name, if◌then◌else◌, int_lt, is_good_value}
+use Rattle.segment_manager.proofs.Common.{is_kind_of, is_number_pair, is_object, is_rising, is_value, item_of}
+use Rattle.segment_manager.proofs.Common.{item_of_kinds, kind_of, list_all, lowest, node_len, not, object_at}
+use Rattle.segment_manager.proofs.Common.{object_len, option_map, pair_above, pair_from, pairs_at, pairs_of, refl}
+use Rattle.segment_manager.proofs.Common.{same_kind, serves, size_of, slice_get, subst, suc, sym, told_of, transitive}
+use Rattle.segment_manager.proofs.Common.{◌&&◌, ◌++◌, ◌+◌, ◌∙◌, ◌∷◌, ◌≡◌, AnswersWith, Bool, Denotes, DenotesCurrent}
+use Rattle.segment_manager.proofs.containers.AnyStorage.{IsOfKindAt, kind-told}
+use Rattle.segment_manager.proofs.{Common.true, Common.zero, Common.ℕ, Common.ℤ, containers.Refilled.told-some}
+use Rattle.segment_manager.proofs.{containers.MapSteps.map-only, objects.Here.standing}
 use Rattle.segment_manager.specs.containers.Walks.{KindedPair, items_read}
+
+-- no key is below the least value of its kind
+not-below : (k : ScalarKind) (z : ℤ) → is_value k z ≡ true → int_lt z (lowest k) ≡ false
+not-below k z h = let low : IsTrue (int_le (lowest k) z) = first (int_le (lowest k) z) (int_le z (highest k)) h in grind
+    arith
+
+-- so the first pair is the first from there on
+walk-starts : (k : ScalarKind) (ps : List NumberPair) → IsTrue (list_all (λ (p : NumberPair). is_value k p.key) ps)
+    → pair_from (lowest k) ps ≡ option_map item_of (first_of ps)
+walk-starts k [] h = refl
+walk-starts k (p ∷ ps) h =
+    ap (λ (b : Bool). option_map item_of (if not b then Some p else first_pair int_lt false (lowest k) ps))
+    (not-below k p.key (first (is_value k p.key) (list_all (λ (p : NumberPair). is_value k p.key) ps) h))
+
+-- the next pair above a map key is the pair after that key's
+behind : (p : NumberPair) (back : List NumberPair) → is_rising int_lt (p ∷ back) ≡ true
+    → first_pair int_lt true p.key back ≡ first_of back
+behind p [] r = refl
+behind p (q ∷ qs) r = ap (λ (b : Bool). if not (not b) then Some q else first_pair int_lt true p.key qs)
+    (first (int_lt p.key q.key) (is_rising int_lt (q ∷ qs)) r)
+
+-- pairs before a key are below it
+below-end : (q : NumberPair) (front : List NumberPair) (p : NumberPair) (back : List NumberPair)
+    → is_rising int_lt (q ∷ (front ++ p ∷ back)) ≡ true → int_lt q.key p.key ≡ true
+below-end q [] p back r = first (int_lt q.key p.key) (is_rising int_lt (p ∷ back)) r
+below-end q (s ∷ front) p back r =
+    transitive q.key s.key p.key (first (int_lt q.key s.key) (is_rising int_lt (s ∷ (front ++ p ∷ back))) r)
+    (below-end s front p back (second (int_lt q.key s.key) (is_rising int_lt (s ∷ (front ++ p ∷ back))) r))
+
+rest-rises : (q : NumberPair) (qs : List NumberPair) → is_rising int_lt (q ∷ qs) ≡ true → is_rising int_lt qs ≡ true
+rest-rises q [] r = refl
+rest-rises q (s ∷ qs) r = second (int_lt q.key s.key) (is_rising int_lt (s ∷ qs)) r
+
+-- a number is not below a number that is below it
+not-above : (x y : ℤ) → int_lt x y ≡ true → int_lt y x ≡ false
+not-above x y e = by_cases (int_lt y x) refl
+  where
+    by_cases : (b : Bool) → int_lt y x ≡ b → b ≡ false
+    by_cases true f = absurd (both_ways (int_lt x x) (irreflexive x) (transitive x y x e f))
+    by_cases false f = refl
+
+above-found : (front : List NumberPair) (p : NumberPair) (back : List NumberPair)
+    → is_rising int_lt (front ++ p ∷ back) ≡ true → first_pair int_lt true p.key (front ++ p ∷ back) ≡ first_of back
+above-found [] p back r = ap (λ (b : Bool). if not (not b) then Some p else first_pair int_lt true p.key back)
+    (irreflexive p.key) ∙ behind p back r
+above-found (q ∷ front) p back r =
+    ap (λ (b : Bool). if not (not b) then Some q else first_pair int_lt true p.key (front ++ p ∷ back))
+    (not-above q.key p.key (below-end q front p back r)) ∙ above-found front p back (rest-rises q (front ++ p ∷ back) r)
+
+-- the pair above a key is the next one
+walk-goes_on : (front : List NumberPair) (p : NumberPair) (back : List NumberPair)
+    → is_rising int_lt (front ++ p ∷ back) ≡ true
+    → pair_above p.key (front ++ p ∷ back) ≡ option_map item_of (first_of back)
+walk-goes_on front p back r = ap (option_map item_of) (above-found front p back r)
 
 -- ---- the pairs of a good value
 

@@ -1,38 +1,34 @@
 -- Elements of arrays and vectors that one call writes: the result in each directory.
 use Rattle.segment_manager.proofs.Common as common
-use common.{◌≡◌, refl, sym, ap, subst, ◌∙◌, ℕ, ◌+◌, ◌*◌, ◌<◌, ◌≤◌, ℤ, Bool, true, false, ◌||◌, Option, Some, None}
-use common.{Result, Ok, Err, List, ◌++◌, length, map, take, drop, if◌then◌else◌, arith, IsTrue, list_all, nat_le}
-use common.{le-leb, lt-leb, length-append, length-map, map-append, take-map, eq-eqb, ne_eqb, WindowState}
-use common.{SameBytesExcept, HasBytesAt, bytes_of, current, handle, Kind, ScalarKind, Scalar, Vector, code_of}
-use common.{same_kind, is_value, size_of, spelled, spelling, Refusal, NotFound, OutOfRange, ReadOnly, WrongKind, Key}
-use common.{ByHandle, Mode, Answer, Done, Refused, Directory, Object, Value, Numbers, Elements, kind_of, count_of}
-use common.{value_extents, padded, object_at, changed, is_read_only, with_items, SegmentState, DenotesCurrent, Denotes}
-use common.{IsValueAt, ChangesBytes, Located, IsLocated, head_len, Place, IsSegment, IsObjectInBlock, same_Some}
-use common.{value_len, mul-le-mul_left, IsMissing, BackingArray, kind_of_code, leb-true, [], flat_map, has_room}
-use common.{live_of}
-use Rattle.std.proofs.lemmas.List.{nil_from_length, drop-map, length-drop, length-take, take-append-drop}
-use Rattle.segment_manager.proofs.objects.WholeNumbers.{IsOfKind, whole-spelled, whole-values}
-use Rattle.segment_manager.specs.containers.Ranges.{ChangesRange, WritesRange, numbers_if, range_at, range_in, replaced}
-use Rattle.segment_manager.specs.containers.Ranges.{with_range, written, written_if}
-use Rattle.segment_manager.proofs.objects.Stored.{numbers-good, ElementAt, element-found}
-use Rattle.segment_manager.proofs.directory.CommandSteps.{IsMove, by_moves, by_same, moves-same, stays-refl}
-use Rattle.segment_manager.proofs.{directory.HeapCalls.denotes-heap, objects.Standings.standing-room}
-use Rattle.segment_manager.proofs.{objects.Locating.said-at, objects.Locating.same-object, objects.Here.standing}
-use Rattle.segment_manager.proofs.objects.Written.{numbers-object}
-use Rattle.segment_manager.proofs.objects.KindCodes.{code-read, numbers-only}
-use Rattle.segment_manager.proofs.{objects.ObjectLists.key-found, objects.Exchanged.denotes-rewritten}
-use Rattle.segment_manager.proofs.{directory.Frame.object-roomy, objects.Rewritten.value_start}
-use Rattle.segment_manager.proofs.containers.Safely.{Performed, performed}
-use Rattle.segment_manager.proofs.blocks.Blocks.{spelling-length, spelled-length}
-use Rattle.std.proofs.{lemmas.Bool.leb-false, lemmas.Bool.and_parts, lemmas.List.Folds.list_all-append}
-use Rattle.segment_manager.specs.objects.Located.{located, value_offset}
-use Rattle.segment_manager.specs.objects.ElementLists.{numbers_in}
-use Rattle.segment_manager.specs.objects.Standing.{place_at, offset_in}
+use Rattle.std.proofs.lemmas.List.{drop-map, length-drop, length-take, nil_from_length, take-append-drop}
+use Rattle.std.proofs.lemmas.{Bool.and_parts, Bool.leb-false, List.Folds.list_all-append}
 use Rattle.std.specs.Prelude.{IfOk, OnOk}
 use Rattle.raw_region.proofs.Bytes.{HasBytesAt-patched}
-use Rattle.best_fit.specs.Heap.{KeepsGaps}
 use Rattle.best_fit.proofs.Laws.{gaps-payload}
+use Rattle.best_fit.specs.Heap.{KeepsGaps}
 use Rattle.seg_vector.proofs.storage.TypedVectors.{all-both, flat-replaced}
+use Rattle.segment_manager.proofs.blocks.Blocks.{spelled-length, spelling-length}
+use Rattle.segment_manager.proofs.containers.Safely.{Performed, performed}
+use Rattle.segment_manager.proofs.directory.CommandSteps.{IsMove, by_moves, by_same, moves-same, stays-refl}
+use Rattle.segment_manager.proofs.directory.{Frame.object-roomy, HeapCalls.denotes-heap}
+use Rattle.segment_manager.proofs.objects.WholeNumbers.{IsOfKind, whole-spelled, whole-values}
+use Rattle.segment_manager.proofs.objects.{Exchanged.denotes-rewritten, KindCodes.code-read, KindCodes.numbers-only}
+use Rattle.segment_manager.proofs.objects.{Here.standing, Stored.ElementAt, Stored.element-found, Stored.numbers-good}
+use Rattle.segment_manager.proofs.objects.{Locating.said-at, Locating.same-object, Standings.standing-room}
+use Rattle.segment_manager.proofs.objects.{ObjectLists.key-found, Rewritten.value_start, Written.numbers-object}
+use Rattle.segment_manager.specs.containers.Ranges.{ChangesRange, WritesRange, numbers_if, range_in, replaced}
+use Rattle.segment_manager.specs.containers.Ranges.{with_range, written, written_if}
+use Rattle.segment_manager.specs.objects.ElementLists.{numbers_in}
+use Rattle.segment_manager.specs.objects.{Located.located, Located.value_offset, Standing.offset_in, Standing.place_at}
+use common.{DenotesCurrent, Directory, Done, Elements, Err, HasBytesAt, IsLocated, IsObjectInBlock, IsSegment, IsTrue}
+use common.{IsValueAt, Key, Kind, List, Located, Mode, None, NotFound, Numbers, Object, Ok, Option, OutOfRange, Place}
+use common.{ReadOnly, Refusal, Refused, Result, SameBytesExcept, Scalar, ScalarKind, SegmentState, Some, Value, Vector}
+use common.{WindowState, WrongKind, [], ap, arith, bytes_of, changed, code_of, count_of, current, drop, eq-eqb, false}
+use common.{flat_map, handle, has_room, head_len, if◌then◌else◌, is_read_only, is_value, kind_of, kind_of_code, le-leb}
+use common.{leb-true, length, length-append, length-map, list_all, live_of, lt-leb, map, map-append, mul-le-mul_left}
+use common.{nat_le, ne_eqb, object_at, padded, refl, same_Some, same_kind, size_of, spelled, spelling, subst, sym, take}
+use common.{take-map, true, value_extents, value_len, with_items, ℕ, ℤ}
+use common.{◌*◌, ◌++◌, ◌+◌, ◌<◌, ◌||◌, ◌∙◌, ◌≡◌, ◌≤◌, Answer, BackingArray, Bool, ByHandle, ChangesBytes, Denotes}
 
 -- ---- a list with others in the places from one on
 
@@ -89,16 +85,6 @@ module _ (mode : Mode) (d : Directory) (key : Key) (k : ScalarKind) (first : ℕ
       if e i then (Refused ReadOnly, d)
       else written_if (range_in (f i) first (length zs)) d (with_range d key first zs)
 
-  -- writing a range of a segment that is only read is refused
-  pub range-reading : is_read_only mode ≡ true → written mode d key k first zs ≡ (Refused ReadOnly, d)
-  range-reading e = ap (λ b. if b then (Refused ReadOnly, d)
-      else written_if (range_at d key k first (length zs)) d (with_range d key first zs)) e
-
-  -- writing a range of an object that does not exist fails
-  pub range-nowhere : is_read_only mode ≡ false → object_at d key ≡ None
-      → written mode d key k first zs ≡ (Refused NotFound, d)
-  range-nowhere e f = open-for e (Err NotFound) (ap (slice_in k) f)
-
   pub range-other : is_read_only mode ≡ false → (o : Object) → object_at d key ≡ Some o
       → numbers_if k o.value ≡ Err WrongKind → written mode d key k first zs ≡ (Refused WrongKind, d)
   range-other e o f g = open-for e (Err WrongKind) (ap (slice_in k) f ∙ g)
@@ -152,13 +138,6 @@ module _ (s : SegmentState) (key : Key) (k : ScalarKind) (first : ℕ) (zs : Lis
       → IsMove (record s { cut = new }) Done (written s.mode d key k first zs)
   range-moves new d is leads =
       record { after = with_range d key first zs; is = is; stands = record { denotes = leads } }
-
--- no object has the key
-pub why-missing : (s : SegmentState) (key : Key) (k : ScalarKind) (first : ℕ) (zs : List ℤ)
-    → is_read_only s.mode ≡ false → {why : Refusal} → IsMissing s key why → WritesRange s s key k first zs (Refused why)
-why-missing s key k first zs writing m =
-    subst (λ (r : Refusal). WritesRange s s key k first zs (Refused r)) (sym m.is)
-    (range-stays s key k first zs NotFound (λ d st. range-nowhere s.mode d key k first zs writing (m.missing d st)))
 
 -- under a key as under the handle of its object
 pub range-by_key : (s t : SegmentState) (key : Key) (o : Located) → IsLocated s key o → (k : ScalarKind) (first : ℕ)

@@ -1,27 +1,26 @@
 -- What becomes of an object whose contents are released, for each kind of value.
 use Rattle.segment_manager.proofs.Common as common
-use common.{◌≡◌, ExchangesBlocks, StringsKind, IsTextsContainer, container_at, container_place, value_extents}
-use common.{ReleasesPairs, refl, sym, ◌∙◌, ◌+◌, Some, Ok, List, [], WindowState, Kind, Map, Key, Head, Texts, true, ap}
-use common.{subst, length, IsTrue, eq-eqb, Extent, handle, Scalar, Place, Value, Pairs, Object, padded, changed}
-use common.{append-nil, same_Some, ScalarKind, ReplacesTexts, IsValueAt, HoldsObject, Directory, is_object, numbers_of}
-use common.{ℕ, current, code_of, Denotes, Becomes, Empties, emptied, has_key, kind_of, HasPairs, IsHeadOf}
-use common.{IsObjectInBlock, bytes_of, no_backing, ByHandle, place_at, object_at, value_len, head_len, HasObject}
-use common.{DenotesCurrent}
-use Rattle.segment_manager.proofs.containers.Contained.{good-with, start-place, Shape, contents-shape, value-said}
-use Rattle.segment_manager.proofs.containers.Emptied.{IsEmptied, changed-itself, emptied-is, emptied-numbers}
-use Rattle.segment_manager.proofs.objects.Exchanged.{Exchange, between, denotes-container}
-use Rattle.segment_manager.proofs.containers.MapCalls.{HoldsPairs, holds-pairs}
-use Rattle.segment_manager.proofs.objects.ObjectLists.{all-found, each-true, found-handle, key-found}
-use Rattle.segment_manager.proofs.containers.OneLength.{HoldsElements, holds-elements, nothing-left}
-use Rattle.segment_manager.proofs.containers.TextsHeld.{HoldsTexts, holds-texts}
-use Rattle.segment_manager.proofs.objects.Rewritten.{value_start, with_value}
-use Rattle.segment_manager.proofs.containers.Refilled.{placed, told-some}
-use Rattle.segment_manager.proofs.{directory.Frame.object-roomy, objects.Here.IsReadAt, objects.Here.standing}
-use Rattle.segment_manager.proofs.{directory.LiveSet.IsIn}
+use Rattle.seg_vector.specs.Containers.{IsStanding}
+use Rattle.seg_vector.specs.{Elements.FreesStorage, Elements.FreesStorageOk, TextsCalls.ReleasesTexts}
 use Rattle.seg_map.specs.Changing.{FreesAllPairs}
-use Rattle.seg_vector.specs.Elements.{FreesStorage, FreesStorageOk}
-use Rattle.seg_vector.specs.{Containers.IsStanding, TextsCalls.ReleasesTexts}
-use Rattle.segment_manager.specs.{containers.Contents.has_storage, containers.Stored.each_of}
+use Rattle.segment_manager.proofs.containers.Contained.{Shape, contents-shape, good-with, start-place, value-said}
+use Rattle.segment_manager.proofs.containers.Emptied.{IsEmptied, changed-itself, emptied-is, emptied-numbers}
+use Rattle.segment_manager.proofs.containers.MapCalls.{HoldsPairs, holds-pairs}
+use Rattle.segment_manager.proofs.containers.OneLength.{HoldsElements, holds-elements, nothing-left}
+use Rattle.segment_manager.proofs.containers.Refilled.{placed, told-some}
+use Rattle.segment_manager.proofs.containers.TextsHeld.{HoldsTexts, holds-texts}
+use Rattle.segment_manager.proofs.directory.{Frame.object-roomy, LiveSet.IsIn}
+use Rattle.segment_manager.proofs.objects.Exchanged.{Exchange, between, denotes-container}
+use Rattle.segment_manager.proofs.objects.ObjectLists.{all-found, each-true, found-handle, key-found}
+use Rattle.segment_manager.proofs.objects.{Here.IsReadAt, Here.standing, Rewritten.value_start, Rewritten.with_value}
+use Rattle.segment_manager.specs.containers.{Contents.has_storage, Stored.each_of}
+use common.{HasObject, HasPairs, Head, HoldsObject, IsHeadOf, IsObjectInBlock, IsTextsContainer, IsTrue, IsValueAt, Key}
+use common.{Kind, List, Map, Object, Ok, Pairs, Place, ReleasesPairs, ReplacesTexts, Scalar, ScalarKind, Some}
+use common.{StringsKind, Texts, Value, WindowState, [], ap, append-nil, bytes_of, changed, code_of, container_at}
+use common.{container_place, current, emptied, eq-eqb, handle, has_key, head_len, is_object, kind_of, length}
+use common.{no_backing, numbers_of, object_at, padded, place_at, refl, same_Some, subst, sym, true, value_extents}
+use common.{value_len, ℕ}
+use common.{◌+◌, ◌∙◌, ◌≡◌, Becomes, ByHandle, Denotes, DenotesCurrent, Directory, Empties, ExchangesBlocks, Extent}
 
 -- ---- the object of a handle
 

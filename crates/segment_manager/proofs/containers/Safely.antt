@@ -94,15 +94,6 @@ answered {says = says} s t view b new key kind c r done = record {
   segment = step_of_kind-segment s (record s { cut = new }) key kind c (says r) done.step b;
 }
 
--- the contract of the call
-pub told : {R : Type 0} {says : Result R Refusal
-    → Answer} {s t : SegmentState} {new : WindowState} {key : Key} {kind : Kind}
-    {c : Command} {r : Result R Refusal} → Answered says s t new key kind c r → record {
-      step : TakesStepOfKind t (record s { cut = new }) key kind c (says r);
-      refused : OnErr r ((record s { cut = new }) ≡ t);
-    }
-told a = record { step = a.step; refused = a.refused }
-
 -- the same for a call on any object
 pub record Stepped (s t : SegmentState) (new : WindowState) (c : Command) (answer : Answer) : Type 0 where
   pub step : TakesStep t (record s { cut = new }) c answer

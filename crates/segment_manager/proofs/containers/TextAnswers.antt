@@ -1,24 +1,23 @@
 -- The contracts of seg_vector on a text at its place, as steps of the calls on the object's string.
 use Rattle.segment_manager.proofs.Common as common
-use common.{◌++◌, ◌<◌, Err, IsTrue, List, None, Ok, Option, Result, Some, [], ap, arith, false, get_or, length, map}
-use common.{nat_abs, nat_le, nat_lt, pos, refl, slice_get, subst, suc, sym, true, zero, ℕ, ◌∙◌, ◌∷◌, ◌≡◌, and_from}
-use common.{le-leb, slice_get-get_or, slice_get-map, slice_get_past, option_map, slice_set, WindowState, BackingArray}
-use common.{Append, Assign, Get, Quoted, Set, literal_of, is_value, Key, String, U8, Refusal, NotFound}
-use common.{AssignsText, IsSomeText, GrowsTextOk, ReplacesText, capacity_for_text, Place, Done, Element}
-use common.{are_bytes, bytes_at, container_at, Bytes, Object, Value, kind_of, live, Reply, perform, AnswersWith}
-use common.{IsSegment, TakesStepOfKind, SegmentState, changed, is_read_only, Command, StepsSafely, done_answer}
-use Rattle.segment_manager.proofs.containers.ContentPlans.{append-plan, byte-plan, set_byte-plan, text-plan}
-use Rattle.segment_manager.proofs.containers.ItemSteps.{HoldsItems, ListedNow, items-stay, one-kind, so-too, some-items}
-use Rattle.segment_manager.proofs.containers.ItemSteps.{ListedGrown, Listing, changes-safely, grows-safely, holds-items}
-use Rattle.segment_manager.proofs.containers.Safely.{Answered, answered, kept-gaps, same-live}
+use Rattle.std.proofs.Common.{Fits, w8}
+use Rattle.raw_region.proofs.{Bytes.fits-are_bytes, Facts.first, Facts.second}
 use Rattle.best_fit.specs.Heap.{KeepsGaps}
 use Rattle.seg_vector.proofs.Laws.{same-extents}
-use Rattle.segment_manager.proofs.{Common.live_of, directory.CommandSteps.open-reading, objects.Stored.literal-read}
-use Rattle.segment_manager.proofs.containers.ToChange.{seen-found}
-use Rattle.raw_region.proofs.{Bytes.fits-are_bytes, Facts.first, Facts.second}
-use Rattle.std.proofs.Common.{Fits, w8}
-use Rattle.seg_vector.specs.TextCalls.{AppendsText, GetsByte, ReadsText, SetsByte}
-use Rattle.segment_manager.specs.{containers.Contents.text_bytes, containers.ToChange.IsChangeableContainer}
+use Rattle.seg_vector.specs.TextCalls.{AppendsText, ReadsText, SetsByte}
+use Rattle.segment_manager.proofs.containers.ContentPlans.{append-plan, set_byte-plan, text-plan}
+use Rattle.segment_manager.proofs.containers.ItemSteps.{HoldsItems, ListedGrown, ListedNow, Listing, changes-safely}
+use Rattle.segment_manager.proofs.containers.ItemSteps.{grows-safely, holds-items, one-kind, so-too, some-items}
+use Rattle.segment_manager.proofs.containers.Safely.{Answered, answered, kept-gaps, same-live}
+use Rattle.segment_manager.proofs.{Common.live_of, containers.ToChange.seen-found, objects.Stored.literal-read}
+use Rattle.segment_manager.specs.containers.{Contents.text_bytes, ToChange.IsChangeableContainer}
+use common.{GrowsTextOk, IsSegment, IsSomeText, IsTrue, Key, List, None, NotFound, Object, Ok, Option, Place, Quoted}
+use common.{Refusal, ReplacesText, Reply, Result, SegmentState, Set, Some, StepsSafely, String, U8, Value, WindowState}
+use common.{[], and_from, ap, are_bytes, arith, bytes_at, capacity_for_text, changed, container_at, done_answer, false}
+use common.{get_or, is_read_only, is_value, kind_of, le-leb, length, literal_of, map, nat_abs, nat_le, nat_lt}
+use common.{option_map, pos, refl, slice_get, slice_get-get_or, slice_get-map, slice_get_past, slice_set, subst, suc}
+use common.{sym, true, zero, ℕ}
+use common.{◌++◌, ◌<◌, ◌∙◌, ◌∷◌, ◌≡◌, AnswersWith, Append, Assign, AssignsText, BackingArray, Bytes, Command, Done, Err}
 
 -- ---- bytes
 
@@ -110,12 +109,6 @@ module _ {s t : SegmentState} (view : s ≡ t) (key : Key) (p : Place) (b : IsSe
   -- there is a text at the place
   pub text-standing : IsSomeText s.cut.bytes p
   text-standing = (some.items, (some.table, some.stands))
-
-  -- one byte of the text is read
-  pub text-got : (i x : ℕ) → GetsByte s.cut p i (Ok x) → TakesStepOfKind s s key String (Get key i) (Element U8 (pos x))
-  text-got i x a = items-stay texts s key p b there-too (Get key i) (Element U8 (pos x)) (open-reading s.mode
-      (Get key i) refl) (λ d den h. ap (perform d (live d)) (byte-plan d key h.object h.items h.table h.is h.value i
-      (Some (pos x)) (byte-got h.items i (Some x) (a h.items h.table h.stands))))
 
 -- for a segment that is open for writing
 module _ {s t : SegmentState} (view : s ≡ t) (b : IsSegment s.cut.bytes) {key : Key} {p : Place}

@@ -2,43 +2,41 @@
 -- object's vector of texts.
 use Rattle.segment_manager.proofs.Common as common
 use Rattle.seg_types.specs.Commands as asked
-use common.{IsTextsContainer, option_to_list, slice_get-get_or, slice_get_past, AssignsTextsOk, AssignsTexts}
-use common.{is_untouched, ◌≡◌, refl, subst, true, false, Some, None, arith, BackingArray, Place, Change, Clear, Shrink}
-use common.{Reply, SegmentState, effect, sym, ap, ◌∙◌, ℕ, ◌+◌, ◌-◌, ◌<◌, ◌≤◌, inl, inr, Ok, Err, List, [], ◌∷◌, map}
-use common.{Bor, WindowState, Key, Done, Plan, with, Option, Result, length, get_or, IsTrue, insert, remove, le-ltb}
-use common.{lt-ltb, Refused, Reserve, perform, AnswersWith, append-nil, option_map, slice_get, false≢true, OutOfRange}
-use common.{with_array, command_of, refusal_in, done_answer, slice_set, list_all, same_Some, shrunk_backing}
-use common.{UndoesRequests, requested_texts, OwnedText, RefusesIndex, are_bytes, Directory, current, LiveSet, live_of}
-use common.{Refusal, NoSpace, Command, requested_text, IsSegment, DenotesCurrent, answer_of, texts_of, StringsKind}
-use common.{IfErr, NotFound, WrongKind, Value, first_size, if◌then◌else◌, kind_of, length_at_kind, same_kind, sizes_of}
-use common.{placed_text, grown_backing, TextElement, container_at, TakesStepOfKind, is_read_only, StepsSafely}
-use common.{sizes_of_kind}
-use Rattle.segment_manager.proofs.containers.TextMoves.{TextsMove, all-other, moved, one-block, texts-stay, texts-steps}
-use Rattle.segment_manager.proofs.containers.TextMoves.{in-array, left-out, Kept, kept, led, texts_in, Led}
-use Rattle.segment_manager.proofs.containers.TextMoves.{StepsKeeping, step-leads-on, texts-lead-on, texts-restored}
-use Rattle.segment_manager.proofs.containers.TextPlans.{all-met, all-unmet, all_plan, assign-none, assign-some}
-use Rattle.segment_manager.proofs.containers.TextPlans.{beside_array, clear-texts, erase-text, got-text, insert-text}
-use Rattle.segment_manager.proofs.containers.TextPlans.{insert_in, insert_plan, one-more-met, one-more-unmet, pop-text}
-use Rattle.segment_manager.proofs.containers.TextPlans.{push-text, reserve-texts, set-text, set_in, shrink-texts}
-use Rattle.segment_manager.proofs.containers.TextPlans.{text-placed, assign_in, text_in, texts_after, then_text}
-use Rattle.segment_manager.proofs.containers.Safely.{Answered, answered, done-so, of-error, pick-outside, pick-space}
-use Rattle.segment_manager.proofs.{containers.Safely.stays}
-use Rattle.segment_manager.proofs.containers.PlacedTexts.{text-bytes, texts-bytes}
-use Rattle.segment_manager.proofs.containers.TextsHeld.{some-texts, HoldsTexts}
-use Rattle.segment_manager.proofs.{directory.CommandSteps.open-reading, directory.CommandSteps.open-writing}
-use Rattle.segment_manager.proofs.{containers.TextAnswers.fits-bytes}
-use Rattle.segment_manager.proofs.{directory.HeapCalls.denotes-live, containers.ToChange.seen-found}
-use Rattle.segment_manager.proofs.containers.TextLists.{part-inserted, part-set}
-use Rattle.segment_manager.proofs.containers.Refilled.{then_room, room-grown}
 use Rattle.std.proofs.Common.{Fits, w8}
-use Rattle.segment_manager.specs.{containers.Stored.ChangesTexts, Directory.Object, Directory.Texts, Directory.live}
-use Rattle.segment_manager.specs.containers.ToChange.{IsChangeableContainer}
 use Rattle.best_fit.specs.Exchange.{KeepsLiveSet}
-use Rattle.seg_vector.specs.TextsCalls.{ReadsTextsLen}
-use Rattle.seg_vector.specs.TextsCalls.{ClearsTexts, ErasesText, GetsText, InsertsText, ErasesTextOk, InsertsTextOk}
-use Rattle.seg_vector.specs.TextsCalls.{RefusesFirstBlock, SetsTextOk, LacksFit, PopsText, PushesText, SetsText}
-use Rattle.seg_vector.specs.{TextsCalls.UnchangedIfFirstRefused, TextsCalls.new_array, Vector.capacity_for_one}
-use Rattle.segment_manager.specs.Keeping.{UnchangedWhere, LacksArray, LacksFirst}
+use Rattle.seg_vector.specs.TextsCalls.{ClearsTexts, ErasesText, ErasesTextOk, GetsText, InsertsText, InsertsTextOk}
+use Rattle.seg_vector.specs.TextsCalls.{LacksFit, PopsText, PushesText, ReadsTextsLen, RefusesFirstBlock, SetsText}
+use Rattle.seg_vector.specs.TextsCalls.{SetsTextOk, UnchangedIfFirstRefused, new_array}
+use Rattle.seg_vector.specs.Vector.{capacity_for_one}
+use Rattle.segment_manager.proofs.containers.Safely.{Answered, answered, done-so, of-error, pick-outside, pick-space}
+use Rattle.segment_manager.proofs.containers.TextMoves.{Kept, Led, StepsKeeping, TextsMove, all-other, in-array, kept}
+use Rattle.segment_manager.proofs.containers.TextMoves.{led, left-out, moved, one-block, step-leads-on, texts-lead-on}
+use Rattle.segment_manager.proofs.containers.TextMoves.{texts-restored, texts-stay, texts-steps, texts_in}
+use Rattle.segment_manager.proofs.containers.TextPlans.{all-met, all-unmet, all_plan, assign-none, assign-some}
+use Rattle.segment_manager.proofs.containers.TextPlans.{assign_in, beside_array, clear-texts, erase-text, got-text}
+use Rattle.segment_manager.proofs.containers.TextPlans.{insert-text, insert_in, insert_plan, one-more-met}
+use Rattle.segment_manager.proofs.containers.TextPlans.{one-more-unmet, pop-text, push-text, reserve-texts, set-text}
+use Rattle.segment_manager.proofs.containers.TextPlans.{set_in, shrink-texts, text-placed, text_in, texts_after}
+use Rattle.segment_manager.proofs.containers.{PlacedTexts.text-bytes, PlacedTexts.texts-bytes, TextAnswers.fits-bytes}
+use Rattle.segment_manager.proofs.containers.{Refilled.room-grown, Refilled.then_room, Safely.stays}
+use Rattle.segment_manager.proofs.containers.{TextLists.part-inserted, TextLists.part-set, TextPlans.then_text}
+use Rattle.segment_manager.proofs.containers.{TextsHeld.HoldsTexts, TextsHeld.some-texts, ToChange.seen-found}
+use Rattle.segment_manager.proofs.directory.CommandSteps.{open-reading, open-writing}
+use Rattle.segment_manager.proofs.directory.HeapCalls.{denotes-live}
+use Rattle.segment_manager.specs.Directory.{Object, Texts, live}
+use Rattle.segment_manager.specs.Keeping.{LacksArray, LacksFirst, UnchangedWhere}
+use Rattle.segment_manager.specs.containers.{Stored.ChangesTexts, ToChange.IsChangeableContainer}
+use common.{Clear, Command, DenotesCurrent, Directory, Done, Err, IfErr, IsSegment, IsTextsContainer, IsTrue, Key, List}
+use common.{LiveSet, NoSpace, None, NotFound, Ok, Option, OutOfRange, OwnedText, Place, Plan, Refusal, Refused}
+use common.{RefusesIndex, Reply, Reserve, Result, SegmentState, Shrink, Some, StepsSafely, StringsKind, TakesStepOfKind}
+use common.{TextElement, UndoesRequests, Value, WindowState, WrongKind, [], answer_of, ap, append-nil, are_bytes, arith}
+use common.{command_of, container_at, current, done_answer, effect, false, false≢true, first_size, get_or}
+use common.{grown_backing, if◌then◌else◌, inl, inr, insert, is_read_only, is_untouched, kind_of, le-ltb, length}
+use common.{length_at_kind, list_all, live_of, lt-ltb, map, option_map, option_to_list, perform, placed_text, refl}
+use common.{refusal_in, remove, requested_text, requested_texts, same_Some, same_kind, shrunk_backing, sizes_of}
+use common.{sizes_of_kind, slice_get, slice_get-get_or, slice_get_past, slice_set, subst, sym, texts_of, true, with}
+use common.{with_array, ℕ}
+use common.{◌+◌, ◌-◌, ◌<◌, ◌∙◌, ◌∷◌, ◌≡◌, ◌≤◌, AnswersWith, AssignsTexts, AssignsTextsOk, BackingArray, Bor, Change}
 
 -- texts as literals are read back as themselves
 texts-read : (bss : List (List ℕ)) → texts_of (map asked.Quoted bss) ≡ Ok bss

@@ -1,29 +1,27 @@
 -- A vector of texts as the value of an object: its place for the calls of seg_vector, and the effect of these calls on
 -- the object.
 use Rattle.segment_manager.proofs.Common as common
-use common.{◌≡◌, sym, true, ◌&&◌, Some, None, List, ◌++◌, live, ◌∙◌, ◌+◌, ◌≢◌, ◌≤◌, Ok, [], ◌∷◌, WindowState, Key, ℕ}
-use common.{refl, Storage, LiveSet, live_of, length, IsTrue, nat_le, nat_lt, eq-eqb, Denotes, kind_of, AnswersWith}
-use common.{changed, Value, Texts, SegmentState, ap, subst, arith, le-leb, lt-ltb, Extent, handle, BackingArray, serves}
-use common.{Place, Object, padded, list_all, value_len, IsStorageBlock, ReplacesTexts, text_blocks, extents_of}
-use common.{ExchangesBlocks, StringsKind, IsTextsContainer, and_from, IsSegment, extent_at, same_kind, is_proper}
-use common.{AreDistinct, OwnedText, are_bytes, IsValueAt, Directory, eqb-true, ltb-true, bytes_of, current, has_backing}
-use common.{place_at, count_of, IsObjectInBlock, Option, is_object, object_at, option_to_list, AllByRecursion}
-use common.{container_place, has_own_block, is_good_value, container_at, is_owned_text}
-use Rattle.segment_manager.proofs.containers.TextBlocks.{IsPartOther, others-apart, part-exchange}
-use Rattle.segment_manager.proofs.directory.ExtentOrder.{Rising, live-rises, inserted}
+use Rattle.std.proofs.lemmas.List.{nil_from_length}
 use Rattle.raw_region.proofs.Facts.{AllByRecursion-append, AllByRecursion-behind, AllByRecursion-front, first, no_more}
-use Rattle.segment_manager.proofs.containers.Contained.{good-with, start-place}
-use Rattle.segment_manager.proofs.objects.Rewritten.{with_value, value_start}
-use Rattle.segment_manager.proofs.{directory.Frame.object-roomy, directory.LiveSet.live-split, directory.LiveSet.IsIn}
-use Rattle.segment_manager.proofs.directory.HeapCalls.{denotes-live, denotes-heap}
-use Rattle.segment_manager.proofs.objects.Regrown.{rest, with_extents}
-use Rattle.segment_manager.proofs.{objects.Exchanged.denotes-container, objects.Standings.standing-room}
-use Rattle.segment_manager.proofs.{containers.ItemSteps.one-kind, objects.Here.standing, objects.ObjectLists.key-found}
-use Rattle.segment_manager.proofs.containers.Refilled.{HoldsAt, holds-at}
 use Rattle.raw_region.proofs.Facts.{second}
 use Rattle.best_fit.proofs.Laws.{all-found-in}
-use Rattle.std.proofs.lemmas.List.{nil_from_length}
 use Rattle.seg_vector.specs.{TextsCalls.IsHeldText, TextsCalls.IsTexts, Vector.IsTextsAt}
+use Rattle.segment_manager.proofs.containers.Refilled.{HoldsAt, holds-at}
+use Rattle.segment_manager.proofs.containers.TextBlocks.{IsPartOther, others-apart, part-exchange}
+use Rattle.segment_manager.proofs.containers.{Contained.good-with, Contained.start-place, ItemSteps.one-kind}
+use Rattle.segment_manager.proofs.directory.ExtentOrder.{Rising, inserted, live-rises}
+use Rattle.segment_manager.proofs.directory.{Frame.object-roomy, HeapCalls.denotes-heap, HeapCalls.denotes-live}
+use Rattle.segment_manager.proofs.objects.{Exchanged.denotes-container, Rewritten.value_start, Rewritten.with_value}
+use Rattle.segment_manager.proofs.objects.{Here.standing, Regrown.rest, Regrown.with_extents, Standings.standing-room}
+use Rattle.segment_manager.proofs.{directory.LiveSet.IsIn, directory.LiveSet.live-split, objects.ObjectLists.key-found}
+use common.{Directory, ExchangesBlocks, Extent, IsObjectInBlock, IsSegment, IsStorageBlock, IsTextsContainer, IsTrue}
+use common.{IsValueAt, Key, List, LiveSet, None, Object, Ok, Option, OwnedText, Place, ReplacesTexts, SegmentState}
+use common.{Some, Storage, StringsKind, Texts, Value, WindowState, [], and_from, ap, are_bytes, arith, bytes_of}
+use common.{changed, container_at, container_place, count_of, current, eq-eqb, eqb-true, extent_at, extents_of, handle}
+use common.{has_backing, has_own_block, is_good_value, is_object, is_owned_text, is_proper, kind_of, le-leb, length}
+use common.{list_all, live, live_of, lt-ltb, ltb-true, nat_le, nat_lt, object_at, option_to_list, padded, place_at}
+use common.{refl, same_kind, serves, subst, sym, text_blocks, true, value_len, ℕ}
+use common.{◌&&◌, ◌++◌, ◌+◌, ◌∙◌, ◌∷◌, ◌≡◌, ◌≢◌, ◌≤◌, AllByRecursion, AnswersWith, AreDistinct, BackingArray, Denotes}
 
 -- ---- texts
 

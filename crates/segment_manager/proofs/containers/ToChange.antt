@@ -1,10 +1,9 @@
 -- The container to change, for the calls that change it.
-use Rattle.segment_manager.proofs.Common.{◌≡◌, true, false, sym, subst, Result, Ok, Err, MatchResult, Kind, Refusal}
-use Rattle.segment_manager.proofs.Common.{Key, Command, Place, Refused, container_at, AnswersWith, SegmentState}
-use Rattle.segment_manager.proofs.Common.{TakesStepOfKind, Answer, answer_of, is_changing, is_read_only, IsNotToChange}
-use Rattle.segment_manager.proofs.{Common.exit-is, containers.Refilled.finds-no_container}
-use Rattle.segment_manager.proofs.{directory.CommandSteps.open-writing}
 use Rattle.std.specs.Prelude.{IsErrAnd}
+use Rattle.segment_manager.proofs.Common.{Ok, Place, Refusal, Refused, Result, SegmentState, TakesStepOfKind, answer_of}
+use Rattle.segment_manager.proofs.Common.{container_at, exit-is, false, is_changing, is_read_only, subst, sym, true}
+use Rattle.segment_manager.proofs.Common.{◌≡◌, Answer, AnswersWith, Command, Err, IsNotToChange, Key, Kind, MatchResult}
+use Rattle.segment_manager.proofs.{containers.Refilled.finds-no_container, directory.CommandSteps.open-writing}
 use Rattle.segment_manager.specs.containers.ToChange.{IsChangeableContainer}
 
 -- a segment that is open for writing

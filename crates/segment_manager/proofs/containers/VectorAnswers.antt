@@ -2,44 +2,42 @@
 -- object's vector.
 use Rattle.segment_manager.proofs.Common as common
 use Rattle.seg_types.specs.Commands as asked
-use common.{◌++◌, slice_get, take-map, slice_set, same_kind, OutOfRange, RefusesIndex, Directory, IsSegment, answer_of}
-use common.{◌+◌, length-map, map-append, option_map, literal_of, ScalarKind, ReplacesVector, is_read_only, done_answer}
-use common.{◌-◌, ◌<◌, Err, [], ap, inl, inr, map, pos, sym, true, ◌∙◌, ◌∷◌, ◌≡◌, ◌≤◌, WindowState, Key, Done, live}
-use common.{Bool, IsTrue, Result, get_or, length, le-ltb, lt-ltb, insert, remove, Vector, AnswersWith, changed, Command}
-use common.{List, None, Some, arith, false, refl, subst, take, BackingArray, Place, Value, Reply, SegmentState, effect}
-use common.{Answer, Ok, slice_get-get_or, slice_get-map, slice_get_past, value_of_literal, capacity_for_one, LacksSpace}
-use common.{ℕ, IsSomeVector, GrowsVectorOk, container_at, is_good_value, with_capacity, TakesStepOfKind, AnswersSafely}
-use common.{ℤ, list_all, flat_map, size_of, Refusal, NoSpace, Assigns, Element, Refused, Elements, kind_of, perform}
-use common.{grown_backing, current, Denotes, Option, Plan, DenotesCurrent, MatchResult, IfErr, ◌⊎◌, NotFound, Located}
-use common.{Object, sizes_at, sizes_of, is_elementwise}
-use Rattle.segment_manager.specs.objects.BoundObjects.{IsBound, container_of, key_of}
-use Rattle.segment_manager.proofs.containers.RangeCalls.{RangeWritten, range-done, range-elements, range-moves}
-use Rattle.segment_manager.proofs.containers.RangeCalls.{range-short, series-elements, whole-replaced}
-use Rattle.segment_manager.proofs.containers.Extending.{VectorExtended, extended-found, extended-room}
-use Rattle.segment_manager.proofs.objects.WholeNumbers.{whole-values, IsOfKind, whole-insert, whole-reached}
-use Rattle.segment_manager.proofs.objects.WholeNumbers.{whole-remove, whole-set, whole-spelled}
-use Rattle.segment_manager.specs.containers.Ranges.{extended, numbers_if, replaced, written}
-use Rattle.seg_vector.specs.VectorCalls.{Sets, CountsCapacity, ExtendsBy, SetsAll, ErasesFrom, Gets, InsertsInto}
-use Rattle.seg_vector.specs.VectorCalls.{IsVector, Pops, Pushes, ReadsVectorLen}
-use Rattle.segment_manager.specs.objects.ElementLists.{element_of, numbers_at, whole_of}
-use Rattle.segment_manager.proofs.containers.Safely.{performed, pick-outside, pick-space, answered, done-so, kept-gaps}
-use Rattle.segment_manager.proofs.containers.ContentPlans.{assign-plan, erase-plan, insert-plan, pop-plan, push-plan}
-use Rattle.segment_manager.proofs.containers.ItemSteps.{HoldsItems, ListedGrown, ListedNow, Listing, changes-safely}
-use Rattle.segment_manager.proofs.containers.ItemSteps.{found-items, items-denote, grows-safely, items-full}
-use Rattle.segment_manager.proofs.containers.ItemSteps.{items-grown, items-now, items-refused, items-stay, items-steps}
-use Rattle.segment_manager.proofs.containers.ItemSteps.{so-too, some-items, vector-only}
-use Rattle.segment_manager.proofs.{bound.Changes.Changed, bound.Changes.leaves-bound, bound.Places.container-bound}
-use Rattle.segment_manager.proofs.{containers.Refilled.then_room, Common.live_of, containers.ToChange.seen-found}
-use Rattle.segment_manager.proofs.{directory.CommandSteps.open-writing, objects.ElementLists.numbers-listed}
-use Rattle.segment_manager.proofs.containers.Safely.{refuses-so, same-live}
-use Rattle.segment_manager.proofs.containers.ContentPlans.{set-plan}
-use Rattle.segment_manager.proofs.objects.Stored.{literal-read, literals-read}
-use Rattle.segment_manager.proofs.containers.Contained.{contents-fit}
-use Rattle.segment_manager.specs.Keeping.{KeepsUnused}
-use Rattle.seg_vector.specs.Vector.{capacity_for_more}
 use Rattle.std.specs.Option.{ok_or}
 use Rattle.best_fit.specs.Heap.{KeepsGaps}
 use Rattle.seg_vector.proofs.Laws.{same-extents}
+use Rattle.seg_vector.specs.Vector.{capacity_for_more}
+use Rattle.seg_vector.specs.VectorCalls.{CountsCapacity, ErasesFrom, ExtendsBy, Gets, InsertsInto, IsVector, Pops}
+use Rattle.seg_vector.specs.VectorCalls.{Pushes, ReadsVectorLen, Sets, SetsAll}
+use Rattle.segment_manager.proofs.bound.{Changes.Changed, Changes.leaves-bound, Places.container-bound}
+use Rattle.segment_manager.proofs.containers.ContentPlans.{assign-plan, erase-plan, insert-plan, pop-plan, push-plan}
+use Rattle.segment_manager.proofs.containers.Extending.{VectorExtended, extended-found, extended-room}
+use Rattle.segment_manager.proofs.containers.ItemSteps.{HoldsItems, ListedGrown, ListedNow, Listing, changes-safely}
+use Rattle.segment_manager.proofs.containers.ItemSteps.{found-items, grows-safely, items-denote, items-full}
+use Rattle.segment_manager.proofs.containers.ItemSteps.{items-grown, items-now, items-refused, items-stay, items-steps}
+use Rattle.segment_manager.proofs.containers.ItemSteps.{so-too, some-items, vector-only}
+use Rattle.segment_manager.proofs.containers.RangeCalls.{RangeWritten, range-done, range-elements, range-moves}
+use Rattle.segment_manager.proofs.containers.RangeCalls.{range-short, series-elements, whole-replaced}
+use Rattle.segment_manager.proofs.containers.Safely.{answered, done-so, kept-gaps, performed, pick-outside, pick-space}
+use Rattle.segment_manager.proofs.containers.{Contained.contents-fit, Safely.refuses-so, Safely.same-live}
+use Rattle.segment_manager.proofs.containers.{ContentPlans.set-plan, Refilled.then_room, ToChange.seen-found}
+use Rattle.segment_manager.proofs.objects.WholeNumbers.{IsOfKind, whole-insert, whole-reached, whole-remove, whole-set}
+use Rattle.segment_manager.proofs.objects.WholeNumbers.{whole-spelled, whole-values}
+use Rattle.segment_manager.proofs.objects.{ElementLists.numbers-listed, Stored.literal-read, Stored.literals-read}
+use Rattle.segment_manager.proofs.{Common.live_of, directory.CommandSteps.open-writing}
+use Rattle.segment_manager.specs.Keeping.{KeepsUnused}
+use Rattle.segment_manager.specs.containers.Ranges.{extended, numbers_if, replaced, written}
+use Rattle.segment_manager.specs.objects.BoundObjects.{IsBound, container_of, key_of}
+use Rattle.segment_manager.specs.objects.ElementLists.{element_of, numbers_at, whole_of}
+use common.{Bool, Command, Denotes, DenotesCurrent, Directory, Done, Element, Elements, Err, GrowsVectorOk, IfErr}
+use common.{IsSegment, IsSomeVector, IsTrue, Key, LacksSpace, List, Located, MatchResult, NoSpace, None, NotFound}
+use common.{Object, Ok, Option, OutOfRange, Place, Plan, Refusal, Refused, RefusesIndex, ReplacesVector, Reply, Result}
+use common.{ScalarKind, SegmentState, Some, TakesStepOfKind, Value, Vector, WindowState, [], answer_of, ap, arith}
+use common.{capacity_for_one, changed, container_at, current, done_answer, effect, false, flat_map, get_or}
+use common.{grown_backing, inl, inr, insert, is_elementwise, is_good_value, is_read_only, kind_of, le-ltb, length}
+use common.{length-map, list_all, literal_of, live, lt-ltb, map, map-append, option_map, perform, pos, refl, remove}
+use common.{same_kind, size_of, sizes_at, sizes_of, slice_get, slice_get-get_or, slice_get-map, slice_get_past}
+use common.{slice_set, subst, sym, take, take-map, true, value_of_literal, with_capacity, ℕ, ℤ}
+use common.{◌++◌, ◌+◌, ◌-◌, ◌<◌, ◌∙◌, ◌∷◌, ◌≡◌, ◌≤◌, ◌⊎◌, Answer, AnswersSafely, AnswersWith, Assigns, BackingArray}
 
 module _ {T : Type 0} {k : ScalarKind} {w : T → ℤ} {size : ℕ} {test : T → Bool} {sp : T → List ℕ}
     (law : IsOfKind k w size test sp) where

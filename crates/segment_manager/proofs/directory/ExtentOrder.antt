@@ -6,7 +6,7 @@ use Rattle.segment_manager.proofs.Common.{eq-eqb, ne_eqb}
 use Rattle.best_fit.specs.Fit.{insert}
 use Rattle.best_fit.proofs.Laws.{AllByRecursion-insert_from, others-here, others-past}
 unfoldable pub use Rattle.best_fit.proofs.Laws.{Differs, Rising}
-pub use Rattle.best_fit.proofs.Laws.{IsFresh, all_of-insert, all_of-inserted, apart-inserted, hole-order}
+pub use Rattle.best_fit.proofs.Laws.{IsFresh, all_of-insert, all_of-inserted, apart-inserted}
 pub use Rattle.best_fit.proofs.Laws.{insert-inserted, inserted-comm, live-rises, rising-insert, rising-inserted}
 pub use Rattle.best_fit.proofs.Laws.{rising-weak, without-inserted}
 pub use Rattle.best_fit.specs.Exchange.{inserted, without_all}

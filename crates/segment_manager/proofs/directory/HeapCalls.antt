@@ -1,13 +1,12 @@
 -- The contracts of the heap for a directory: blocks allocated, freed and written.
-use Rattle.segment_manager.proofs.Common.{◌≡◌, sym, ap, ◌∙◌, ℕ, Bool, true, ◌&&◌, ◌==◌, List, WindowState, live, []}
-use Rattle.segment_manager.proofs.Common.{◌∷◌, refl, is_live_in, value_extents, without_object, lay_out_one}
-use Rattle.segment_manager.proofs.Common.{list_any-insert, subst, IsTrue, eq-eqb, Extent, handle, holds, KeepsBlocks}
-use Rattle.segment_manager.proofs.Common.{Object, has_key, Denotes, list_any, is_proper, Deallocates, Directory}
-use Rattle.segment_manager.proofs.Common.{IsObjectAt, Anonymous, extents_of, and_from, bytes_of, LiveSet, released}
-use Rattle.segment_manager.proofs.Common.{EncodesLiveSet, live_of, has_room, ByHandle}
+use Rattle.segment_manager.proofs.Common.{Directory, EncodesLiveSet, Extent, IsObjectAt, IsTrue, KeepsBlocks, List}
+use Rattle.segment_manager.proofs.Common.{LiveSet, Object, WindowState, [], and_from, ap, bytes_of, eq-eqb, extents_of}
+use Rattle.segment_manager.proofs.Common.{handle, has_key, has_room, holds, is_live_in, is_proper, lay_out_one}
+use Rattle.segment_manager.proofs.Common.{list_any, list_any-insert, live, live_of, refl, released, subst, sym, true}
+use Rattle.segment_manager.proofs.Common.{◌&&◌, ◌==◌, ◌∙◌, ◌∷◌, ◌≡◌, Anonymous, Bool, ByHandle, Deallocates, Denotes}
 use Rattle.segment_manager.proofs.directory.LiveSet.{IsFound, IsIn, live-split, removing}
-use Rattle.segment_manager.proofs.{directory.ExtentOrder.inserted, objects.ObjectLists.all-found}
-use Rattle.segment_manager.proofs.{directory.OneObject.denotes-without}
+use Rattle.segment_manager.proofs.directory.{ExtentOrder.inserted, OneObject.denotes-without}
+use Rattle.segment_manager.proofs.{Common.value_extents, Common.without_object, Common.ℕ, objects.ObjectLists.all-found}
 
 -- ---- objects are live blocks
 

@@ -1,11 +1,10 @@
 -- A command that only reads keeps the directory, and a step also takes place without its answer.
 use Rattle.segment_manager.proofs.Common as common
-use common.{◌≡◌, sym, subst, Bool, false, Some, None, Ok, Err, Kind, Key, Mode, live, Plan, met, plan, step}
-use common.{SegmentState, refl, Option, Result, Extent, resized, Refusal, NoSpace, Command, Answer, Refused, perform}
-use common.{TakesStep, StepsWithoutAnswer, ap, false≢true, LiveSet, is_changing, Directory, refusal_of, step_of_kind}
-use common.{DenotesCurrent, answer_of, refusal_in}
 use Rattle.segment_manager.proofs.directory.Refusals.{Leaves, by_change, by_other, by_refusal, by_request, by_same}
 use Rattle.segment_manager.proofs.directory.Refusals.{plan-leaves, plan_of_kind-leaves, step-refused}
+use common.{Option, Plan, Refusal, Refused, SegmentState, Some, StepsWithoutAnswer, false, false≢true, is_changing}
+use common.{live, met, perform, plan, refl, refusal_of, resized, step, step_of_kind, subst, sym}
+use common.{◌≡◌, Answer, Bool, Command, DenotesCurrent, Directory, Extent, Key, Kind, LiveSet, Mode, NoSpace, None}
 
 asked-reads : {d : Directory} (o : Option Extent) (after : Extent → Answer × Directory) → ((x : Extent)
     → (after x).1 ≡ d) → (elim o as (λ _. Answer × Directory) [ None ↦ (Refused NoSpace, d) | Some x ↦ after x ]).1 ≡ d
@@ -33,28 +32,6 @@ unfolding step_of_kind
 step_of_kind-reads mode d key kind c e = perform-reads _ e (live d) _ (plan_of_kind-leaves mode d key kind c)
 
 -- ---- calls that answer less than the machine
-
--- a step also takes place without its answer
-pub step-leads : (old new : SegmentState) (c : Command) (answer : Answer) → TakesStep old new c answer
-    → StepsWithoutAnswer old new c (refusal_of answer)
-step-leads old new c answer m = record {
-  stays = m.stays;
-  answers = λ d h. ap refusal_of (m.answers d h);
-  denotes = m.denotes;
-}
-
--- the answer of a result has the result's error
-refusal_in-answer : {A : Type 0} (f : A → Answer) → ((a : A) → refusal_of (f a) ≡ None) → (result : Result A Refusal)
-    → refusal_of (answer_of f result) ≡ refusal_in result
-refusal_in-answer f none (Ok a) = none a
-refusal_in-answer f none (Err r) = refl
-
--- so does a call whose whole answer is known
-pub result-leads : {A : Type 0} (f : A → Answer)
-    → ((a : A) → refusal_of (f a) ≡ None) → {old new : SegmentState} (c : Command) (result : Result A Refusal)
-    → TakesStep old new c (answer_of f result) → StepsWithoutAnswer old new c (refusal_in result)
-result-leads f none {old} {new} c result m =
-    subst (StepsWithoutAnswer old new c) (refusal_in-answer f none result) (step-leads old new c (answer_of f result) m)
 
 -- an answer that is refused
 refused-is : {r : Refusal} (answer : Answer) → Some r ≡ refusal_of answer → answer ≡ Refused r

@@ -2,27 +2,26 @@
 -- object that is constructed or destroyed. The contents of the bytes are in HeldIndexes.
 use Rattle.segment_manager.proofs.Common as common
 use Rattle.seg_types.specs.Names as names
-use common.{◌≡◌, refl, sym, ap, subst, ◌∙◌, ℕ, ◌+◌, ◌<◌, ◌≤◌, ◌≢◌, ◌⊎◌, inl, inr, true, false, ◌&&◌, ◌==◌, Some, None}
-use common.{List, [], ◌∷◌, length, arith, IsTrue, filter, find, insert, remove, slice_get, AllByRecursion, nat_cmp}
-use common.{slice_cmp, and_from, cases_lt, cond-true, cond-false, eq-eqb, ne_eqb, false≢true, same_Some, current}
-use common.{WindowState, Memory, bytes_of, handle, NamedClass, UniqueClass, Kind, code_of, same_kind, Index, Named}
-use common.{Unique, Name, Code, Found, Absent, FindsPosition, Object, Directory, IsDirectory, has_key, insert_by}
-use common.{is_class, kind_of, object_at, remove_object, rises_from, same_bytes, with_object, without_object, Denotes}
-use common.{handles, IsEntry, Seeks, class_of_index, entries_of, objects_of, order_of, table_of, by_name, by_kind}
-use Rattle.segment_manager.proofs.indexes.HeldIndexes.{all-in, directory-index, entries-in, objects-ascend}
-use Rattle.segment_manager.proofs.{indexes.HeldIndexes.order-strict, objects.Ranks.IsRanked, objects.Ranks.all-ordered}
-use Rattle.segment_manager.proofs.{directory.IndexedParts.ordered-without, directory.OneObject.handles-length}
-use Rattle.segment_manager.proofs.{directory.LiveSet.IsIn, blocks.InUse.all-both}
-use Rattle.segment_manager.proofs.indexes.KeyOrder.{Says, code-of, kinds-apart, kinds-class, kinds-say, name-of}
-use Rattle.segment_manager.proofs.indexes.KeyOrder.{same-itself, names-apart, names-class, names-say}
+use Rattle.raw_region.proofs.Facts.{first}
+use Rattle.seg_index.specs.{Lookups.order, Sorted.index_of, declared.keys.Entry.Entry}
+use Rattle.segment_manager.proofs.directory.{IndexedParts.ordered-without, LiveSet.IsIn, OneObject.handles-length}
 use Rattle.segment_manager.proofs.indexes.EntryPlaces.{IsPlaceOf, all-at, all_of-ordered, ascends-at, at-all, at-handle}
 use Rattle.segment_manager.proofs.indexes.EntryPlaces.{insert-at, none-found, of-class, own-found, remove-at, stands-at}
+use Rattle.segment_manager.proofs.indexes.HeldIndexes.{all-in, directory-index, entries-in, objects-ascend}
+use Rattle.segment_manager.proofs.indexes.Indexes.{by_kind-strict, by_name-strict, index-parts, named-more, one-removed}
+use Rattle.segment_manager.proofs.indexes.KeyOrder.{Says, code-of, kinds-apart, kinds-class, kinds-say, name-of}
+use Rattle.segment_manager.proofs.indexes.KeyOrder.{names-apart, names-class, names-say, same-itself}
+use Rattle.segment_manager.proofs.indexes.{HeldIndexes.order-strict, Indexes.rises-above, Indexes.unique-more}
 use Rattle.segment_manager.proofs.objects.RankedPairs.{found-filter, ordered-pairwise}
-use Rattle.segment_manager.proofs.indexes.Indexes.{index-parts, named-more, rises-above, unique-more, one-removed}
-use Rattle.segment_manager.proofs.indexes.Indexes.{by_name-strict, by_kind-strict}
-use Rattle.segment_manager.proofs.objects.ObjectLists.{rises-rest, all-found}
-use Rattle.raw_region.proofs.Facts.{first}
-use Rattle.seg_index.specs.{declared.keys.Entry.Entry, Lookups.order, Sorted.index_of}
+use Rattle.segment_manager.proofs.objects.Ranks.{IsRanked, all-ordered}
+use Rattle.segment_manager.proofs.{blocks.InUse.all-both, objects.ObjectLists.all-found, objects.ObjectLists.rises-rest}
+use common.{FindsPosition, Found, Index, IsDirectory, IsEntry, IsTrue, Kind, List, Memory, Name, Named, NamedClass}
+use common.{None, Object, Seeks, Some, Unique, UniqueClass, WindowState, [], and_from, ap, arith, by_kind, by_name}
+use common.{bytes_of, cases_lt, class_of_index, code_of, cond-false, cond-true, current, entries_of, eq-eqb, false}
+use common.{false≢true, filter, find, handle, handles, has_key, inl, inr, insert, insert_by, is_class, kind_of, length}
+use common.{nat_cmp, ne_eqb, object_at, objects_of, order_of, refl, remove, remove_object, rises_from, same_Some}
+use common.{same_bytes, same_kind, slice_cmp, slice_get, subst, sym, table_of, true, with_object, without_object, ℕ}
+use common.{◌&&◌, ◌+◌, ◌<◌, ◌==◌, ◌∙◌, ◌∷◌, ◌≡◌, ◌≢◌, ◌≤◌, ◌⊎◌, Absent, AllByRecursion, Code, Denotes, Directory}
 
 -- the object of the key is the object of the entry at a place
 pub record IsEntryFor (i : Index) (d : Directory) (key : names.Key) (at : ℕ) : Type 0 where

@@ -1,17 +1,16 @@
 -- One index of a directory is written, and the other stays.
 use Rattle.segment_manager.proofs.Common as common
-use common.{◌≡◌, refl, sym, ap, subst, ◌∙◌, suc, ◌+◌, ◌<◌, ◌≤◌, true, false, ◌==◌, None, length, arith, IsTrue}
-use common.{flat_map, AllByRecursion, Memory, SameBytes, SameBytes-part, IndexRole, Extent, SameBlock, BackingArray}
-use common.{has_backing, no_backing}
-use common.{class_code, Key, ByKind, ByName, Index, index_at, IsIndexAt, Object, Directory, extents_of, is_class}
-use common.{is_index, kind_of, live, object_at, table_extents, with_object, handles, class_of_index, entries_of}
-use common.{objects_of, order_of, table_of, with_table_of, by_name, by_kind, NamedClass, UniqueClass}
-use Rattle.segment_manager.proofs.indexes.Indexes.{named-more, unique-more, ordered-more, new-name, new-kind}
-use Rattle.segment_manager.proofs.indexes.Indexes.{by_name-strict, by_kind-strict}
-use Rattle.segment_manager.proofs.directory.OneObject.{HasIndexes, handles-length, index-stays}
-use Rattle.segment_manager.proofs.{directory.LiveSet.of_each, objects.RankedPairs.insert_by-length}
-use Rattle.segment_manager.proofs.{directory.IndexedParts.ordered-with}
 use Rattle.seg_index.specs.declared.index.Index.TheVariants as index
+use Rattle.segment_manager.proofs.directory.OneObject.{HasIndexes, handles-length, index-stays}
+use Rattle.segment_manager.proofs.directory.{IndexedParts.ordered-with, LiveSet.of_each}
+use Rattle.segment_manager.proofs.indexes.Indexes.{by_kind-strict, by_name-strict, named-more, new-kind, new-name}
+use Rattle.segment_manager.proofs.indexes.Indexes.{ordered-more, unique-more}
+use Rattle.segment_manager.proofs.objects.RankedPairs.{insert_by-length}
+use common.{IndexRole, IsIndexAt, IsTrue, Key, Memory, NamedClass, None, Object, SameBlock, SameBytes, SameBytes-part}
+use common.{UniqueClass, ap, arith, by_kind, by_name, class_code, class_of_index, entries_of, extents_of, false}
+use common.{flat_map, handles, has_backing, index_at, is_class, is_index, kind_of, length, live, no_backing, object_at}
+use common.{objects_of, order_of, refl, subst, suc, sym, table_extents, table_of, true, with_object, with_table_of}
+use common.{◌+◌, ◌<◌, ◌==◌, ◌∙◌, ◌≡◌, ◌≤◌, AllByRecursion, BackingArray, ByKind, ByName, Directory, Extent, Index}
 
 -- ---- one index, and the other
 

@@ -1,14 +1,13 @@
 -- Objects in order and their places: the object at a place, the object with a key, and inserting or removing an object.
-use Rattle.segment_manager.proofs.Common.{◌≡◌, refl, sym, ap, subst, ◌∙◌, ℕ, zero, suc, ◌+◌, ◌<◌, ◌≤◌, ◌≢◌, Bool, true}
-use Rattle.segment_manager.proofs.Common.{false, Some, None, List, [], ◌∷◌, length, arith, cond, IsTrue, filter, find}
-use Rattle.segment_manager.proofs.Common.{fold, insert, remove, slice_get, AllByRecursion, cond-true, cond-false}
-use Rattle.segment_manager.proofs.Common.{none-some, same_Some, handle, Class, Object, insert_by, is_class}
-use Rattle.segment_manager.proofs.objects.Ranks.{IsRanked, IsStrict, all_of-insert_by, insert_by-behind}
-use Rattle.segment_manager.proofs.{Common.remove_object, Common.rises, Common.handles, objects.Ranks.insert_by-front}
-use Rattle.segment_manager.proofs.{objects.Ranks.ranked-sym, directory.LiveSet.remove-here}
-use Rattle.segment_manager.proofs.{directory.LiveSet.remove-behind}
-use Rattle.segment_manager.proofs.{objects.RankedPairs.Pairwise, blocks.InUse.all-both, blocks.InUse.all-each}
 use Rattle.raw_region.proofs.Facts.{first, second}
+use Rattle.segment_manager.proofs.Common.{None, Object, Some, [], ap, arith, cond, cond-false, cond-true, false, filter}
+use Rattle.segment_manager.proofs.Common.{find, fold, handle, handles, insert, insert_by, is_class, length, none-some}
+use Rattle.segment_manager.proofs.Common.{refl, remove, remove_object, rises, same_Some, slice_get, subst, suc, sym}
+use Rattle.segment_manager.proofs.Common.{◌+◌, ◌<◌, ◌∙◌, ◌∷◌, ◌≡◌, ◌≢◌, ◌≤◌, AllByRecursion, Bool, Class, IsTrue, List}
+use Rattle.segment_manager.proofs.directory.LiveSet.{remove-behind, remove-here}
+use Rattle.segment_manager.proofs.objects.Ranks.{IsRanked, IsStrict, all_of-insert_by, insert_by-behind}
+use Rattle.segment_manager.proofs.objects.{RankedPairs.Pairwise, Ranks.insert_by-front, Ranks.ranked-sym}
+use Rattle.segment_manager.proofs.{Common.true, Common.zero, Common.ℕ, blocks.InUse.all-both, blocks.InUse.all-each}
 
 -- ---- the object at a place
 

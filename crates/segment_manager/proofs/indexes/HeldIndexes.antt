@@ -1,26 +1,24 @@
 -- Bytes that denote a directory contain its two indexes: each is in its heap with its block, and its entries lead to
 -- rising keys.
-use Rattle.segment_manager.proofs.Common.{◌≡◌, sym, ◌∙◌, ℕ, ◌+◌, ◌≤◌, ◌%◌, [], ◌∷◌, Less, WindowState, live, subst}
-use Rattle.segment_manager.proofs.Common.{true, Some, List, arith, Memory, handle, Index, Named, Unique, Object, length}
-use Rattle.segment_manager.proofs.Common.{bytes_of, index_at, is_class, is_index, is_object, order_of, IsTrue, IfSome}
-use Rattle.segment_manager.proofs.Common.{le-leb, current, Denotes, handles, IsEntry, table_of, AllByRecursion, nat_cmp}
-use Rattle.segment_manager.proofs.Common.{IsDirectory, IsObjectAt, class_of_index, slice_cmp, extent_at, IsIndexOf}
-use Rattle.segment_manager.proofs.Common.{IsIndexAt, Directory, entries_of, objects_of, ObjectRole, and_from, and_parts}
-use Rattle.segment_manager.proofs.Common.{ap, has_good_name, holds, is_good_value, ◌&&◌, is_kind_of, kind_of}
-use Rattle.segment_manager.proofs.Common.{object_len, same_role, serves}
-use Rattle.segment_manager.proofs.objects.Heads.{entries_say_objects, entry-name_len, good-name, good_name-short}
-use Rattle.segment_manager.proofs.blocks.InUse.{IsInUse, all-both, all-each, named-in_use, objects-in_use}
-use Rattle.segment_manager.proofs.{blocks.InUse.unique-in_use, objects.ObjectLists.each-true}
-use Rattle.segment_manager.proofs.{directory.OneObject.handles-length}
-use Rattle.segment_manager.proofs.{directory.HeapCalls.denotes-heap, directory.HeapCalls.denotes-live}
-use Rattle.segment_manager.proofs.{directory.Frame.object-roomy}
-use Rattle.segment_manager.proofs.indexes.EntryPlaces.{Ascends, rises-ascends}
-use Rattle.segment_manager.proofs.indexes.KeyOrder.{kind-less, name-less}
-use Rattle.segment_manager.proofs.indexes.Indexes.{index-parts, by_kind-strict, by_name-strict}
-use Rattle.segment_manager.proofs.objects.Ranks.{all-ordered, IsStrict}
+use Rattle.std.specs.List.Sorted.{IsStrictlySortedBy}
 use Rattle.raw_region.proofs.Facts.{AllByRecursion-filter, second}
 use Rattle.seg_index.specs.Sorted.{AreSortedHandles, HasSortKey, HasSortedIndex, sort_key_end, sort_order}
-use Rattle.std.specs.List.Sorted.{IsStrictlySortedBy}
+use Rattle.segment_manager.proofs.Common.{IfSome, Index, IsDirectory, IsEntry, IsIndexAt, IsIndexOf, IsObjectAt, IsTrue}
+use Rattle.segment_manager.proofs.Common.{Less, List, Memory, Named, Object, ObjectRole, Some, Unique, WindowState, []}
+use Rattle.segment_manager.proofs.Common.{and_from, and_parts, ap, arith, bytes_of, class_of_index, current, entries_of}
+use Rattle.segment_manager.proofs.Common.{extent_at, handle, handles, has_good_name, holds, index_at, is_class}
+use Rattle.segment_manager.proofs.Common.{is_good_value, is_index, is_kind_of, is_object, kind_of, le-leb, length, live}
+use Rattle.segment_manager.proofs.Common.{nat_cmp, object_len, objects_of, order_of, same_role, serves, slice_cmp}
+use Rattle.segment_manager.proofs.Common.{subst, sym, table_of, true, ℕ}
+use Rattle.segment_manager.proofs.Common.{◌%◌, ◌&&◌, ◌+◌, ◌∙◌, ◌∷◌, ◌≡◌, ◌≤◌, AllByRecursion, Denotes, Directory}
+use Rattle.segment_manager.proofs.blocks.InUse.{IsInUse, all-both, all-each, named-in_use, objects-in_use}
+use Rattle.segment_manager.proofs.blocks.InUse.{unique-in_use}
+use Rattle.segment_manager.proofs.directory.{HeapCalls.denotes-heap, HeapCalls.denotes-live, OneObject.handles-length}
+use Rattle.segment_manager.proofs.indexes.EntryPlaces.{Ascends, rises-ascends}
+use Rattle.segment_manager.proofs.indexes.Indexes.{by_kind-strict, by_name-strict, index-parts}
+use Rattle.segment_manager.proofs.objects.Heads.{entries_say_objects, entry-name_len, good-name, good_name-short}
+use Rattle.segment_manager.proofs.objects.{ObjectLists.each-true, Ranks.IsStrict, Ranks.all-ordered}
+use Rattle.segment_manager.proofs.{directory.Frame.object-roomy, indexes.KeyOrder.kind-less, indexes.KeyOrder.name-less}
 
 -- ---- an index of a directory
 

@@ -1,23 +1,22 @@
 -- The two indexes after an object of any class is constructed or destroyed.
 use Rattle.segment_manager.proofs.Common as common
-use common.{◌≡◌, refl, sym, ap, subst, ◌∙◌, ℕ, ◌+◌, ◌<◌, ◌≤◌, ◌≢◌, Bool, true, false, ◌&&◌, Option, Some, None, List}
-use common.{[], ◌∷◌, length, arith, if◌then◌else◌, cond, IsTrue, nat_le, find, filter, AllByRecursion, Ordering, Less}
-use common.{Equal, Greater, nat_cmp, is_lt, is_eq, ordering_reverse, slice_cmp, texts_ties, nat_list_cmp_total}
-use common.{and_from, ltb-true, ltb-false, lt-ltb, le-ltb, le-leb, eqb-false, handle, is_proper, BackingArray}
-use common.{has_backing, Class, code_of, same_kind, ByName, ByKind, Object, Directory, IsDirectory, live, kind_of}
-use common.{same_bytes, has_key, object_at, is_class, is_object, is_index, rises, rises_from, remove_object}
-use common.{with_object, without_object, by_name, by_kind, insert_by, named_objects, unique_objects}
-use Rattle.segment_manager.proofs.directory.LiveSet.{IsFound, IsIn, Place, here, behind, found-place, remove-here}
-use Rattle.segment_manager.proofs.directory.LiveSet.{remove-behind}
-use Rattle.segment_manager.proofs.objects.ObjectLists.{list_all-remove, remove-rises, rises-weak, rises-front}
-use Rattle.segment_manager.proofs.{objects.ObjectLists.rises-rest, objects.Ranks.all-ordered}
-use Rattle.segment_manager.proofs.objects.Ranks.{IsStrict, IsRanked, before, after, AllRanked, ordered-put, remove-more}
-use Rattle.segment_manager.proofs.objects.RankedPairs.{ordered-pairwise, pairwise-remove, insert_by-rises}
-use Rattle.segment_manager.proofs.objects.RankedPairs.{without-rises, insert_by-length}
-use Rattle.segment_manager.proofs.directory.IndexedParts.{ordered-without, ordered}
-use Rattle.raw_region.proofs.Facts.{AllByRecursion-filter, first, second, no_more}
+use Rattle.raw_region.proofs.Facts.{AllByRecursion-filter, first, no_more, second}
 use Rattle.block_tags.specs.declared.tile.Role.TheVariants.{Index}
 use Rattle.seg_types.specs.declared.kinds.Class.TheVariants.{Named, Unique}
+use Rattle.segment_manager.proofs.directory.LiveSet.{IsFound, IsIn, Place, behind, found-place, here, remove-behind}
+use Rattle.segment_manager.proofs.directory.{IndexedParts.ordered, IndexedParts.ordered-without, LiveSet.remove-here}
+use Rattle.segment_manager.proofs.objects.ObjectLists.{list_all-remove, remove-rises, rises-front, rises-rest}
+use Rattle.segment_manager.proofs.objects.ObjectLists.{rises-weak}
+use Rattle.segment_manager.proofs.objects.RankedPairs.{insert_by-length, insert_by-rises, ordered-pairwise}
+use Rattle.segment_manager.proofs.objects.Ranks.{AllRanked, IsRanked, IsStrict, after, all-ordered, before, ordered-put}
+use Rattle.segment_manager.proofs.objects.{RankedPairs.pairwise-remove, RankedPairs.without-rises, Ranks.remove-more}
+use common.{Directory, Equal, Greater, IsDirectory, IsTrue, Less, List, None, Object, Option, Ordering, Some, []}
+use common.{and_from, ap, arith, by_kind, by_name, code_of, cond, eqb-false, false, filter, find, handle, has_backing}
+use common.{has_key, if◌then◌else◌, insert_by, is_class, is_eq, is_index, is_lt, is_object, is_proper, kind_of, le-leb}
+use common.{le-ltb, length, live, lt-ltb, ltb-false, ltb-true, named_objects, nat_cmp, nat_le, nat_list_cmp_total}
+use common.{object_at, ordering_reverse, refl, remove_object, rises, rises_from, same_bytes, same_kind, slice_cmp}
+use common.{subst, sym, texts_ties, true, unique_objects, with_object, without_object, ℕ}
+use common.{◌&&◌, ◌+◌, ◌<◌, ◌∙◌, ◌∷◌, ◌≡◌, ◌≢◌, ◌≤◌, AllByRecursion, BackingArray, Bool, ByKind, ByName, Class}
 
 -- ---- the two orders
 

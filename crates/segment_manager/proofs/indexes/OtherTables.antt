@@ -1,30 +1,29 @@
 -- What the bytes denote where an index has another table, and where one object is gone.
 use Rattle.segment_manager.proofs.Common as common
 use Rattle.seg_index.specs.declared.index.Index.TheVariants as index
-use common.{◌≡◌, SameBytes-part, IndexRole, is_proper, SameBlock, entries_of, option_map, ReservesIndexOk, rises_from}
-use common.{objects_of, refl, Option, IsTrue, Memory, Extent, LiveSet, handle, EncodesLiveSet, live_of, Denotes}
-use common.{resized, link_at, handles, sym, ◌∙◌, ◌+◌, ◌≤◌, Some, None, List, WindowState, live, ◌*◌, Bool, true, ◌&&◌}
-use common.{◌==◌, [], ◌||◌, place, ◌∷◌, ap, subst, arith, added, KeepsBlocks, BackingArray, Index, Object, false}
-use common.{length, nat_le, nat_lt, eq-eqb, serves, ℕ, flat_map, bytes_of, no_backing, without_index_block, IsIndexOf}
-use common.{Directory, is_object, shrunk_backing, KeepsOutsideIndex, IsIndexAt, AllByRecursion, class_of_index}
-use common.{with_table_of, if◌then◌else◌, placed_is_proper, lay_out_one, without_object, current, index_at, table_of}
-use common.{list_all, eqb-true, released, has_backing, ShrinksIndex, IsHeader, is_index, order_of, SameBytes-trans}
-use common.{blocks-trans, beside_table, without_link, extents_of, IsObjectAt, remove_object, table_extents}
-use Rattle.segment_manager.proofs.indexes.Entered.{HasOne, has_both, of_rest, other, other-stays, other-words}
-use Rattle.segment_manager.proofs.indexes.Tables.{index-left_out, left_out, live-moved_index, live-no_index}
-use Rattle.segment_manager.proofs.indexes.Tabled.{same-size, same-objects, has-one, place-high}
-use Rattle.segment_manager.proofs.directory.LiveSet.{IsIn, OfEach, live-without, of_each, removing}
-use Rattle.segment_manager.proofs.directory.OneObject.{KeepsFront, denotes-taken, handles-length}
-use Rattle.segment_manager.proofs.directory.Frame.{header-same, any_index-same, any_objects-same}
-use Rattle.raw_region.proofs.Facts.{AllByRecursion-behind, AllByRecursion-front, AllByRecursion-append}
+use Rattle.raw_region.proofs.Facts.{AllByRecursion-append, AllByRecursion-behind, AllByRecursion-front}
 use Rattle.best_fit.specs.Fit.{gap_after, room, shorter}
-use Rattle.segment_manager.proofs.{indexes.Entered.other_class, indexes.HeldIndexes.denotes-index}
-use Rattle.segment_manager.proofs.{indexes.Bridge.no-entry-removed, directory.ExtentOrder.live-rises}
-use Rattle.segment_manager.proofs.directory.HeapCalls.{denotes-live}
-use Rattle.segment_manager.proofs.indexes.Tables.{live-resized_index, live-same_index}
-use Rattle.segment_manager.proofs.indexes.Indexes.{index-from, index-parts}
 use Rattle.seg_index.proofs.Laws.{place_behind}
 use Rattle.seg_index.specs.Capacities.{with_cut}
+use Rattle.segment_manager.proofs.directory.Frame.{any_index-same, any_objects-same, header-same}
+use Rattle.segment_manager.proofs.directory.LiveSet.{IsIn, OfEach, live-without, of_each, removing}
+use Rattle.segment_manager.proofs.directory.OneObject.{KeepsFront, denotes-taken, handles-length}
+use Rattle.segment_manager.proofs.directory.{ExtentOrder.live-rises, HeapCalls.denotes-live}
+use Rattle.segment_manager.proofs.indexes.Entered.{HasOne, has_both, of_rest, other, other-stays, other-words}
+use Rattle.segment_manager.proofs.indexes.Entered.{other_class}
+use Rattle.segment_manager.proofs.indexes.Tabled.{has-one, place-high, same-objects, same-size}
+use Rattle.segment_manager.proofs.indexes.Tables.{index-left_out, left_out, live-moved_index, live-no_index}
+use Rattle.segment_manager.proofs.indexes.{Bridge.no-entry-removed, Indexes.index-from, Indexes.index-parts}
+use Rattle.segment_manager.proofs.indexes.{HeldIndexes.denotes-index, Tables.live-resized_index, Tables.live-same_index}
+use common.{EncodesLiveSet, Extent, Index, IndexRole, IsHeader, IsIndexAt, IsIndexOf, IsObjectAt, IsTrue, KeepsBlocks}
+use common.{KeepsOutsideIndex, List, LiveSet, Memory, None, Object, Option, ReservesIndexOk, SameBlock, SameBytes-part}
+use common.{SameBytes-trans, ShrinksIndex, Some, WindowState, [], added, ap, arith, beside_table, blocks-trans}
+use common.{bytes_of, class_of_index, current, entries_of, eq-eqb, eqb-true, extents_of, false, flat_map, handle}
+use common.{handles, has_backing, if◌then◌else◌, index_at, is_index, is_object, is_proper, lay_out_one, length, link_at}
+use common.{list_all, live, live_of, nat_le, nat_lt, no_backing, objects_of, option_map, order_of, place}
+use common.{placed_is_proper, refl, released, remove_object, resized, rises_from, serves, shrunk_backing, subst, sym}
+use common.{table_extents, table_of, true, with_table_of, without_index_block, without_link, without_object, ℕ}
+use common.{◌&&◌, ◌*◌, ◌+◌, ◌==◌, ◌||◌, ◌∙◌, ◌∷◌, ◌≡◌, ◌≤◌, AllByRecursion, BackingArray, Bool, Denotes, Directory}
 
 -- ---- an index has another table
 

@@ -2,19 +2,18 @@
 use Rattle.segment_manager.proofs.Common as common
 use Rattle.seg_types.specs.Commands as asked
 use Rattle.seg_index.specs.declared.index.Index.TheVariants as index
-use common.{◌≡◌, cases_lt, IndexRole, AllocatesNoSpace, shrunk_backing, IsIndexOf, Directory, objects_of, reserve_of}
-use common.{IsSegment, refl, if◌then◌else◌, SameSurroundings-trans, is_changing, capacity_at, entries_of, with_table_of}
-use common.{is_read_only, sym, ap, ◌∙◌, ◌*◌, ◌<◌, ◌≤◌, ◌⊎◌, inl, inr, List, WindowState, Done, live, Plan, New, Bool}
-use common.{subst, true, false, arith, nat_le, le-leb, lt-leb, place, BackingArray, Index, Reply, TakesStep}
-use common.{SegmentState, effect, ℕ, length, current, NoSpace, KeepsRoomyIndex, ShrinksIndex, HasIndex, index_at}
-use common.{Refused, Denotes, table_of, Request}
-use Rattle.segment_manager.proofs.indexes.OtherTables.{places_in, reserved-tabled, shrunk-tabled, tabled-denotes}
+use Rattle.segment_manager.proofs.containers.Safely.{Stepped, stepped}
 use Rattle.segment_manager.proofs.directory.CommandSteps.{by_no_change, by_step, lands, open-writing, perform-new}
 use Rattle.segment_manager.proofs.directory.CommandSteps.{perform-no_space, step-plan, step-reply}
-use Rattle.segment_manager.proofs.directory.HeapCalls.{denotes-live}
-use Rattle.segment_manager.proofs.containers.Safely.{Stepped, stepped}
-use Rattle.segment_manager.proofs.indexes.HeldIndexes.{denotes-index}
+use Rattle.segment_manager.proofs.indexes.OtherTables.{places_in, reserved-tabled, shrunk-tabled, tabled-denotes}
+use Rattle.segment_manager.proofs.{directory.HeapCalls.denotes-live, indexes.HeldIndexes.denotes-index}
 use Rattle.segment_manager.specs.Step.{shrunk_indexes}
+use common.{Index, IndexRole, IsIndexOf, IsSegment, KeepsRoomyIndex, List, New, NoSpace, Plan, Refused, Reply, Request}
+use common.{SameSurroundings-trans, SegmentState, ShrinksIndex, TakesStep, WindowState, ap, arith, capacity_at}
+use common.{cases_lt, current, effect, entries_of, false, if◌then◌else◌, index_at, inl, inr, is_changing, is_read_only}
+use common.{le-leb, length, live, lt-leb, nat_le, objects_of, place, refl, reserve_of, shrunk_backing, subst, sym}
+use common.{table_of, true, with_table_of, ℕ}
+use common.{◌*◌, ◌<◌, ◌∙◌, ◌≡◌, ◌≤◌, ◌⊎◌, AllocatesNoSpace, BackingArray, Bool, Denotes, Directory, Done, HasIndex}
 
 -- reserving places is a change
 pub reserve-changes : (i : Index) (n : ℕ) → is_changing (reserve_of i n) ≡ true

@@ -1,22 +1,21 @@
 -- What the bytes denote after an index has an entry more or less, or another capacity.
 use Rattle.segment_manager.proofs.Common as common
 use Rattle.seg_index.specs.declared.index.Index.TheVariants as index
-use common.{◌≡◌, refl, sym, ap, subst, ◌∙◌, ℕ, ◌+◌, ◌≤◌, Some, None, Option, List, arith, IsTrue, flat_map, insert}
-use common.{AllByRecursion, WindowState, SameBytes, SameSurroundings, bytes_of, current, SameBytes-part}
-use common.{SameBytes-trans, IndexRole, Extent, LiveSet, handle, is_proper, added, others, AllocatesOk, KeepsBlocks}
-use common.{EncodesLiveSet, SameBlock, extent_at, live_of, BackingArray, no_backing, allocated-live, blocks-trans}
-use common.{Index, AddKeeps, AddsEntry, beside_table, without_index_block, without_link, IsIndexOf, index_at}
-use common.{grown_capacity, Object, Directory, extents_of, is_object, live, object_at, with_object, Denotes, IsObjectAt}
-use common.{class_of_index, entries_of, table_of, with_table_of}
-use Rattle.segment_manager.proofs.objects.Taking.{IsMade, allocated-found, taken-found, taken-live}
+use Rattle.seg_index.proofs.Laws.{place_behind}
+use Rattle.segment_manager.proofs.directory.ExtentOrder.{all_of-inserted, inserted, live-rises}
+use Rattle.segment_manager.proofs.directory.{HeapCalls.denotes-live, OneObject.KeepsFront, OneObject.denotes-put}
 use Rattle.segment_manager.proofs.indexes.Entered.{HasOne, OfRest, entered-other, entered-own, has_both, key_in, of_all}
 use Rattle.segment_manager.proofs.indexes.Entered.{of_rest, other, other-stays, other-words}
 use Rattle.segment_manager.proofs.indexes.Tables.{index-left_out, last-table, left_out, live-moved_index, same-table}
-use Rattle.segment_manager.proofs.directory.ExtentOrder.{inserted, live-rises, all_of-inserted}
-use Rattle.segment_manager.proofs.{indexes.Tables.table-of, directory.LiveSet.adding, directory.HeapCalls.denotes-live}
-use Rattle.segment_manager.proofs.directory.Frame.{any_object-same}
-use Rattle.segment_manager.proofs.directory.OneObject.{KeepsFront, denotes-put}
-use Rattle.seg_index.proofs.Laws.{place_behind}
+use Rattle.segment_manager.proofs.objects.Taking.{IsMade, allocated-found, taken-found, taken-live}
+use Rattle.segment_manager.proofs.{directory.Frame.any_object-same, directory.LiveSet.adding, indexes.Tables.table-of}
+use common.{EncodesLiveSet, Extent, Index, IndexRole, IsIndexOf, IsObjectAt, IsTrue, KeepsBlocks, List, LiveSet, None}
+use common.{Object, Option, SameBlock, SameBytes, SameBytes-part, SameBytes-trans, SameSurroundings, Some, WindowState}
+use common.{added, allocated-live, ap, arith, beside_table, blocks-trans, bytes_of, class_of_index, current, entries_of}
+use common.{extent_at, extents_of, flat_map, grown_capacity, handle, index_at, insert, is_object, is_proper, live}
+use common.{live_of, no_backing, object_at, others, refl, subst, sym, table_of, with_object, with_table_of}
+use common.{without_index_block, without_link, ℕ}
+use common.{◌+◌, ◌∙◌, ◌≡◌, ◌≤◌, AddKeeps, AddsEntry, AllByRecursion, AllocatesOk, BackingArray, Denotes, Directory}
 
 -- ---- the bytes with the new entry
 

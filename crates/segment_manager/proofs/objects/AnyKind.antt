@@ -1,17 +1,16 @@
 -- Calls on elements of the object's own kind: the step of the kind is the command's own.
 use Rattle.segment_manager.proofs.Common as common
 use Rattle.seg_types.specs.Commands as asked
-use common.{◌≡◌, refl, sym, ap, ◌∙◌, ℕ, ℤ, pos, true, false, Option, Some, None, Result, Ok, Err, List, map, slice_set}
-use common.{same_Some, Kind, StringsKind, ScalarKind, U8, Refusal, NotFound, WrongKind, is_value, Key, Command, Literal}
-use common.{literal_of, value_of_literal, Mode, Answer, Done, Refused, elements_at, elements_of, kind_at, Value}
-use common.{Numbers, Elements, Bytes, Pairs, Texts, Object, Directory, kind_of, live, object_at, Plan, Refuse, Reply}
-use common.{perform, with, AnswersWith, AnswersQuery, TakesStep, SegmentState, DenotesCurrent, changed, effect}
-use common.{element_at, get, is_read_only, set, step, with_items}
+use Rattle.segment_manager.proofs.containers.{AnyStorage.kind-told, Refilled.refused-steps, Refilled.same_plan-steps}
 use Rattle.segment_manager.proofs.directory.CommandSteps.{open-reading, step-refuse, with-found, with-not_found}
-use Rattle.segment_manager.specs.Calls.{scalar_reply}
 use Rattle.segment_manager.proofs.objects.Stored.{literal-read}
-use Rattle.segment_manager.proofs.containers.Refilled.{refused-steps, same_plan-steps}
-use Rattle.segment_manager.proofs.containers.AnyStorage.{kind-told}
+use Rattle.segment_manager.specs.Calls.{scalar_reply}
+use common.{Key, Kind, List, Literal, Mode, None, NotFound, Numbers, Object, Ok, Option, Pairs, Plan, Refusal, Refuse}
+use common.{Refused, Reply, Result, ScalarKind, SegmentState, Some, StringsKind, TakesStep, Texts, U8, Value, WrongKind}
+use common.{ap, changed, effect, element_at, elements_at, elements_of, false, get, is_read_only, is_value, kind_at}
+use common.{kind_of, literal_of, live, map, object_at, perform, pos, refl, same_Some, set, slice_set, step, sym, true}
+use common.{value_of_literal, with, with_items, ℕ, ℤ}
+use common.{◌∙◌, ◌≡◌, Answer, AnswersQuery, AnswersWith, Bytes, Command, DenotesCurrent, Directory, Done, Elements, Err}
 
 -- ---- the elements of an object
 

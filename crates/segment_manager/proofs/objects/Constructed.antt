@@ -1,28 +1,84 @@
 -- An object constructed under a key with an entry: the directory of the bytes, and the step of the machine.
-use Rattle.segment_manager.proofs.Common as common
+use Rattle.seg_index.specs.declared.index.Index.TheVariants as index
 use Rattle.seg_types.specs.Names as names
 use Rattle.seg_types.specs.Commands as asked
-use common.{◌≡◌, sym, ◌∙◌, ◌*◌, ◌<◌, ◌≤◌, inl, inr, Some, None, List, WindowState, Kind, AddsEntry, Value, live, Plan}
-use common.{New, bare, refl, IndexRole, AddKeeps, IsIndexOf, Directory, objects_of, IsNewKeyOf, RestoresBlocks}
-use common.{with_entry, with_value, ap, current, LiveSet, resized, EncodesLiveSet, live_of, PreparesOk, index_at}
-use common.{count_of, IsDenied, table_of, class_of, subst, ℤ, length, arith, insert, Extent, handle, added, place}
-use common.{KeepsBlocks, BackingArray, Scalar, Index, Absent, Object, ℕ, allocated-live, keeps-trans, grown_bytes}
-use common.{grown_capacity, class_of_index, with_table_of, with_new_object, Option, Content, FindsPosition, Refused}
-use common.{Denotes, Numbers, kind_of, IsGiven, Request, name_of, perform, NoSpace, bytes_of, ObjectRole, ScalarKind}
-use common.{entry_count, extents_of, object_len, with_object, entries_of, RequestsBlocksOk}
-use Rattle.segment_manager.proofs.objects.Requests.{entry-grows, entry-refused, entry-room}
-use Rattle.segment_manager.proofs.indexes.Tabled.{IsEntered, entered-denotes, entered-none, entered-some, grown_into}
-use Rattle.segment_manager.proofs.objects.NewKeys.{key-class, key-has, key-name, key-own, key-seeks, object_of}
-use Rattle.segment_manager.proofs.objects.Taking.{IsMade, taken-index, growth-index}
-use Rattle.segment_manager.proofs.indexes.Bridge.{entry-added, lookup-absent}
-use Rattle.segment_manager.proofs.{directory.HeapCalls.denotes-live, directory.AnyDirectory.denotes-kept}
-use Rattle.segment_manager.proofs.directory.CommandSteps.{perform-new, perform-no_space}
-use Rattle.segment_manager.proofs.{indexes.Tables.same-table, indexes.HeldIndexes.denotes-index}
-use Rattle.segment_manager.proofs.directory.OneObject.{handles-length}
 use Rattle.best_fit.proofs.Laws.{AllByRecursion-insert}
-use Rattle.seg_index.specs.{declared.keys.Entry.Entry, Growth.grown_live}
-use Rattle.segment_manager.specs.objects.NewObjects.{FindsNone}
 use Rattle.seg_index.proofs.Laws.{place_behind, place_small}
+use Rattle.seg_index.specs.{Growth.grown_live, declared.keys.Entry.Entry}
+use Rattle.segment_manager.proofs.Common.{Denotes, Directory, EncodesLiveSet, Extent, FindsPosition, Index, IndexRole}
+use Rattle.segment_manager.proofs.Common.{IsDenied, IsGiven, IsIndexOf, IsNewKeyOf, IsTrue, KeepsBlocks, Kind, List}
+use Rattle.segment_manager.proofs.Common.{LiveSet, New, NoSpace, None, Numbers, Object, ObjectRole, Option, Plan}
+use Rattle.segment_manager.proofs.Common.{PreparesOk, Refused, Request, RequestsBlocksOk, RestoresBlocks, Role, Scalar}
+use Rattle.segment_manager.proofs.Common.{ScalarKind, Some, Value, WindowState, added, allocated-live, ap, arith, bare}
+use Rattle.segment_manager.proofs.Common.{bytes_of, class_of, class_of_index, count_of, current, entries_of}
+use Rattle.segment_manager.proofs.Common.{entry_count, extents_of, grown_bytes, grown_capacity, handle, if◌then◌else◌}
+use Rattle.segment_manager.proofs.Common.{index_at, inl, inr, insert, is_proper, keeps-trans, kind_of, le-ltb, length}
+use Rattle.segment_manager.proofs.Common.{live, live_of, lt-ltb, name_of, object_len, objects_of, perform, place}
+use Rattle.segment_manager.proofs.Common.{placed_is_proper, refl, resized, subst, sym, table_of, with_entry}
+use Rattle.segment_manager.proofs.Common.{with_new_index, with_new_object, with_object, with_spare_entry, with_table_of}
+use Rattle.segment_manager.proofs.Common.{◌*◌, ◌<◌, ◌∙◌, ◌≡◌, ◌≤◌, Absent, AddKeeps, AddsEntry, BackingArray, Content}
+use Rattle.segment_manager.proofs.directory.CommandSteps.{perform-new, perform-no_space}
+use Rattle.segment_manager.proofs.directory.ExtentOrder.{live-rises, resized-fresh, rising-insert}
+use Rattle.segment_manager.proofs.directory.{AnyDirectory.denotes-kept, OneObject.handles-length}
+use Rattle.segment_manager.proofs.indexes.Tabled.{IsEntered, entered-denotes, entered-none, entered-some, grown_into}
+use Rattle.segment_manager.proofs.indexes.Tables.{same-table}
+use Rattle.segment_manager.proofs.indexes.{Bridge.entry-added, Bridge.lookup-absent, HeldIndexes.denotes-index}
+use Rattle.segment_manager.proofs.objects.NewKeys.{key-class, key-has, key-name, key-own, key-seeks, object_of}
+use Rattle.segment_manager.proofs.objects.Taking.{IsMade, growth-index, taken-index}
+use Rattle.segment_manager.proofs.{Common.with_value, Common.ℕ, Common.ℤ, directory.HeapCalls.denotes-live}
+use Rattle.segment_manager.specs.objects.NewObjects.{FindsNone}
+
+-- ---- a place in an index
+
+abbrev with_table : Index → Directory → (Directory → Plan) → Plan
+with_table i d next = with_spare_entry (table_of i d) (length (objects_of i d)) (λ t. next (with_table_of i d t))
+
+entry-of : (i : Index) (d : Directory) (next : Directory → Plan)
+    → with_entry d (class_of_index i) next ≡ with_table i d next
+entry-of index.Named d next = refl
+entry-of index.Unique d next = refl
+
+-- the request for a block of its own that a full index makes
+abbrev grows : Index → Directory → (Directory → Plan) → Plan
+grows i d next = with_new_index (grown_capacity (table_of i d).capacity) (λ t. next (with_table_of i d t))
+
+-- the capacity of the index allows one more
+entry-room : (i : Index) (d : Directory) (next : Directory → Plan)
+    → length (objects_of i d) < (table_of i d).capacity → with_entry d (class_of_index i) next ≡ next d
+entry-room i d next h = entry-of i d next ∙ ap (λ b. if b then next (with_table_of i d (table_of i d)) else grows i d
+    next) (lt-ltb (length (objects_of i d)) (table_of i d).capacity h) ∙ ap next (same-table i)
+
+entry-full : (i : Index) (d : Directory) (next : Directory → Plan) → (table_of i d).capacity ≤ length (objects_of i d)
+    → with_entry d (class_of_index i) next ≡ grows i d next
+entry-full i d next h = entry-of i d next ∙ ap (λ b. if b then next (with_table_of i d (table_of i d)) else grows i d
+    next) (le-ltb (length (objects_of i d)) (table_of i d).capacity h)
+
+-- a new block adds to the live set
+placed-added : (l : LiveSet) (n : ℕ) (role : Role) {x : Extent} → IsTrue (is_proper l) → place l n role ≡ Some x
+    → resized l x ≡ added l x
+placed-added l n role {x} h e =
+    resized-fresh l x (rising-insert 128 x l.extents (live-rises (added l x) (placed_is_proper l n role x h e))).differs
+
+-- the number of bytes that a full index allocates
+abbrev growth_bytes : Index → Directory → ℕ
+growth_bytes i d = 8 * grown_capacity (table_of i d).capacity
+
+-- the index is full, and there is space for its larger block
+entry-grows : (i : Index) (d : Directory) (next : Directory → Plan) {x : Extent} → IsTrue (is_proper (live d))
+    → (table_of i d).capacity ≤ length (objects_of i d) → place (live d) (growth_bytes i d) IndexRole ≡ Some x
+    → perform d (live d) (with_entry d (class_of_index i) next) ≡ perform d (added (live d) x)
+    (next (with_table_of i d (grown_into i d x)))
+entry-grows i d next {x} h full e = ap (perform d (live d)) (entry-full i d next full)
+    ∙ perform-new d (live d) IndexRole (growth_bytes i d) (λ x. next (with_table_of i d (grown_into i d x))) x e
+    ∙ ap (λ l. perform d l (next (with_table_of i d (grown_into i d x))))
+    (placed-added (live d) (growth_bytes i d) IndexRole h e)
+
+-- or it is not
+entry-refused : (i : Index) (d : Directory) (next : Directory → Plan)
+    → (table_of i d).capacity ≤ length (objects_of i d) → place (live d) (growth_bytes i d) IndexRole ≡ None
+    → perform d (live d) (with_entry d (class_of_index i) next) ≡ (Refused NoSpace, d)
+entry-refused i d next full e = ap (perform d (live d)) (entry-full i d next full)
+    ∙ perform-no_space d (live d) IndexRole (growth_bytes i d) (λ x. next (with_table_of i d (grown_into i d x))) e
 
 -- the new object is in a directory that the new bytes denote, and the machine continues with it
 pub record IsNewObject (new : WindowState) (d : Directory) (key : names.Key) (content : Content) (h : ℕ) : Type 0 where
@@ -175,10 +231,10 @@ module _ (i : Index) (a : WindowState) (d : Directory) (e : Entry) (key : names.
       → perform d (live d) (with_new_object d key content next) ≡ perform d left
       (next (object_of i name v x) (with_object (grown i d a b g grows) (object_of i name v x)))
   content-met b {x} v left g grows placed given next =
-      let then = grown i d a b g grows in
+      let led = grown i d a b g grows in
       ap (perform d (live d)) (plan-of next) ∙ grows-performs i a b g (object_plan i name content next) said grows
       ∙ perform-new d (live_of b.bytes) ObjectRole (object_len name (bare content)) (value_plan i name content next
-      then) x placed ∙ given.met (λ v. next (object_of i name v x) (with_object then (object_of i name v x)))
+      led) x placed ∙ given.met (λ v. next (object_of i name v x) (with_object led (object_of i name v x)))
 
   -- the value's are refused
   pub content-denied : (b : WindowState) {x : Extent} (g : Option ℕ) → (grows : PreparesOk a b (index_at i) g)
@@ -186,10 +242,10 @@ module _ (i : Index) (a : WindowState) (d : Directory) (e : Entry) (key : names.
       → IsDenied d (resized (live_of b.bytes) x) content → (next : Object → Directory → Plan)
       → perform d (live d) (with_new_object d key content next) ≡ (Refused NoSpace, d)
   content-denied b {x} g grows placed denied next =
-      let then = grown i d a b g grows in
+      let led = grown i d a b g grows in
       ap (perform d (live d)) (plan-of next) ∙ grows-performs i a b g (object_plan i name content next) said grows
       ∙ perform-new d (live_of b.bytes) ObjectRole (object_len name (bare content)) (value_plan i name content next
-      then) x placed ∙ denied (λ v. next (object_of i name v x) (with_object then (object_of i name v x)))
+      led) x placed ∙ denied (λ v. next (object_of i name v x) (with_object led (object_of i name v x)))
 
   -- the index's or the object's are
   pub content-none : (next : Object → Directory → Plan) (n : ℕ) → n ≡ object_len name (bare content)

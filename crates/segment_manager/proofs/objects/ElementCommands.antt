@@ -2,22 +2,20 @@
 use Rattle.segment_manager.proofs.Common as common
 use Rattle.seg_types.specs.Commands as asked
 use Rattle.segment_manager.specs.Step as step
-use common.{◌≡◌, true, Some, None, List, Kind, Value, Pairs, Texts, Refuse, TakesStep, SegmentState, refl, NotFound}
-use common.{is_value, ByHandle, Elements, Directory, IsLocated, DenotesCurrent, sym, ap, ◌∙◌, ◌⊎◌, inl, inr, ℕ, ℤ, Ok}
-use common.{Err, Key, subst, literal_of, OwnedText, elements_at, elements_of, IsChangeableObject, IsValueOf, false}
-use common.{MapKind, Refusal, Literal, Located, Refused, kind_at, kind_of, AnswersWith, Option, Result, length, nat_lt}
-use common.{BackingArray, Scalar, Vector, Quoted, Answer, Object, StringsKind, WrongKind, ScalarValue, IsChangeable}
-use common.{TakesStepOfKind, is_read_only, ScalarKind, value_of_literal, kind_of_scalar, value_of_scalar}
-use common.{IsUnchangeable}
+use Rattle.segment_manager.proofs.ElementLaws.{same_plan-steps}
 use Rattle.segment_manager.proofs.containers.AnyStorage.{IsOfKindAt, kind-told, of_kind-steps}
+use Rattle.segment_manager.proofs.containers.Changeable.{refuses, says-kind}
 use Rattle.segment_manager.proofs.containers.ContentPlans.{erase-other, insert-other, insert-plan, is_no_vector}
 use Rattle.segment_manager.proofs.containers.ContentPlans.{pop-other, push-other, push-plan}
-use Rattle.segment_manager.proofs.containers.Changeable.{refuses, says-kind}
-use Rattle.segment_manager.proofs.{objects.AnyKind.any-literal, directory.CommandSteps.with-found}
-use Rattle.segment_manager.proofs.{directory.CommandSteps.with-not_found}
-use Rattle.segment_manager.proofs.{objects.Stored.literal-read, ElementLaws.same_plan-steps}
-use Rattle.segment_manager.proofs.objects.Locating.{step_of_kind-by_key}
+use Rattle.segment_manager.proofs.directory.CommandSteps.{with-found, with-not_found}
+use Rattle.segment_manager.proofs.objects.{AnyKind.any-literal, Locating.step_of_kind-by_key, Stored.literal-read}
 use Rattle.segment_manager.specs.containers.Changeable.{IsElement, IsNoElement}
+use common.{IsChangeable, IsChangeableObject, IsLocated, IsUnchangeable, IsValueOf, Key, Kind, List, Literal, Located}
+use common.{MapKind, None, NotFound, Object, Ok, Option, OwnedText, Pairs, Quoted, Refusal, Refuse, Refused, Result}
+use common.{ScalarKind, ScalarValue, SegmentState, Some, StringsKind, TakesStep, TakesStepOfKind, Texts, Value, Vector}
+use common.{WrongKind, ap, elements_at, elements_of, false, is_read_only, is_value, kind_at, kind_of, kind_of_scalar}
+use common.{length, literal_of, nat_lt, refl, subst, sym, true, value_of_literal, value_of_scalar, ℕ, ℤ}
+use common.{◌∙◌, ◌≡◌, Answer, AnswersWith, BackingArray, ByHandle, DenotesCurrent, Directory, Elements, Err}
 
 -- ---- values by their kinds
 
@@ -246,12 +244,6 @@ pub elements-told : {s : SegmentState} {key : Key} {kind : Kind} {k : ScalarKind
 elements-told h e = record {
   answers = λ d st. let f = told h.is d st in sym (ap elements_of_object f.is ∙ ap elements_of f.kind_is ∙ e);
 }
-
--- an array of scalars, or a vector of them
-pub elements-either : {s : SegmentState} {key : Key} {kind : Kind} {k : ScalarKind} → IsChangeable s key kind
-    → (kind ≡ Scalar k) ⊎ (kind ≡ Vector k) → AnswersWith s (λ d. elements_at d key) (Ok k)
-elements-either h (inl e) = elements-told h (ap elements_of e)
-elements-either h (inr e) = elements-told h (ap elements_of e)
 
 -- a value of the kind that they have
 pub set-step : {old new : SegmentState} (key : Key) {k : ScalarKind} (i : ℕ) (l : Literal) (v : ScalarValue)

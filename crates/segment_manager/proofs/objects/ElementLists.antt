@@ -1,18 +1,17 @@
 -- The elements of a key's object, one after another: the result of reading one, and their number.
 use Rattle.segment_manager.proofs.Common as common
-use common.{code_of, eq-eqb, ◌≡◌, refl, sym, ap, ◌∙◌, ℕ, zero, suc, ℤ, Bool, true, false, Option, Some, None, Result}
-use common.{Ok, Err, List, [], ◌∷◌, map, if◌then◌else◌, option_map, slice_get, Kind, ScalarOf, StringsKind}
-use common.{ScalarKind, Refusal, NotFound, OutOfRange, WrongKind, same_kind, Key, OwnedText, Mode, Answer, Element}
-use common.{Refused, TextElement, Value, Object, Directory, kind_of, live, object_at}
-use common.{Reply, perform, with, answer_of, get, step_of_kind}
-use Rattle.segment_manager.proofs.directory.CommandSteps.{open-reading, step_of_kind-found, step_of_kind-not_found}
-use Rattle.segment_manager.specs.objects.ElementLists.{list_at, numbers_at, numbers_in, texts_at, texts_in}
 use Rattle.seg_types.specs.Commands as asked
-use Rattle.segment_manager.proofs.directory.CommandSteps.{step_of_kind-other, with-found}
-use Rattle.segment_manager.proofs.{containers.ItemSteps.vector-only, containers.ContentPlans.of_slice}
-use Rattle.segment_manager.proofs.{objects.KindCodes.numbers-only, containers.TextsHeld.texts-only}
-use Rattle.segment_manager.proofs.containers.TextPlans.{text_in}
 use Rattle.seg_types.specs.declared.kinds.Kind.TheVariants.{Vector as VectorOf}
+use Rattle.segment_manager.proofs.containers.{ContentPlans.of_slice, ItemSteps.vector-only, TextsHeld.texts-only}
+use Rattle.segment_manager.proofs.directory.CommandSteps.{open-reading, step_of_kind-found, step_of_kind-not_found}
+use Rattle.segment_manager.proofs.directory.CommandSteps.{step_of_kind-other, with-found}
+use Rattle.segment_manager.proofs.{containers.TextPlans.text_in, objects.KindCodes.numbers-only}
+use Rattle.segment_manager.specs.objects.ElementLists.{list_at, numbers_at, numbers_in, texts_at, texts_in}
+use common.{Option, OutOfRange, OwnedText, Refusal, Refused, Reply, Result, ScalarKind, ScalarOf, Some, StringsKind}
+use common.{TextElement, Value, WrongKind, [], answer_of, ap, code_of, eq-eqb, false, get, if◌then◌else◌, kind_of, live}
+use common.{map, object_at, option_map, perform, refl, same_kind, slice_get, step_of_kind, suc, sym, true, with, zero}
+use common.{ℕ, ℤ}
+use common.{◌∙◌, ◌∷◌, ◌≡◌, Answer, Bool, Directory, Element, Err, Key, Kind, List, Mode, None, NotFound, Object, Ok}
 
 -- the element that was read, if it was
 abbrev pub got : {A : Type 0} → Result A Refusal → Option A

@@ -2,25 +2,23 @@
 use Rattle.segment_manager.proofs.Common as common
 use Rattle.seg_types.specs.Names as names
 use Rattle.seg_types.specs.Commands as asked
-use common.{false≢true, ◌≡◌, refl, sym, ap, subst, ◌∙◌, ℕ, true, false, Some, None, Option, Ok, Err, Result, List}
-use common.{IfErr, none-some, WindowState, Kind, Refusal, Exists, NoSpace, Command, Content, Index, PendingEntry, Mode}
-use common.{Answer, Made, Refused, is_untouched, BeginsObject, IsAbsentAt, BeginsObjectErr, Object, Directory, count_of}
-use common.{kind_of, object_at, value_len, Constructs, FindsOrConstructs, BeginsObjectFor, MakesValue, with_count}
-use common.{handle_at, found_object_answer, IsNewKeyOf, bare, IsObjectInBlock, pair_of_kind, AnswersWith, IsSegment}
-use common.{TakesStep, SegmentState, answer_of, handle_answer, is_read_only, Reply, effect, found, with_new_object}
-use Rattle.segment_manager.proofs.objects.FoundOrMade.{constructs-exists, finds, found-there, made_for, made_handle}
-use Rattle.segment_manager.proofs.objects.NewValues.{IsMadeNever, IsMadeNow, away-in, value-built, value-loose}
-use Rattle.segment_manager.specs.containers.Filled.{HasBegun, FillsObject, IsShapeOf}
-use Rattle.segment_manager.proofs.objects.FoundOrMade.{makes, makes-nothing}
-use Rattle.segment_manager.proofs.objects.NewValues.{value-not_built, value-ready}
-use Rattle.segment_manager.proofs.objects.NotBegun.{key-taken, value-not_begun}
-use Rattle.segment_manager.proofs.{directory.CommandSteps.step-segment, indexes.Bridge.lookup-absent}
-use Rattle.segment_manager.proofs.objects.NewKeys.{key-seeks}
-use Rattle.segment_manager.specs.objects.PendingObjects.{Ends, IsEnding}
-use Rattle.segment_manager.specs.{objects.Found.found_object, Answers.Found}
-use Rattle.segment_manager.specs.declared.objects.pending_object.PendingObject.{PendingObject}
-use Rattle.segment_manager.specs.declared.containers.fillings.ObjectShape.{ObjectShape}
 use Rattle.seg_index.specs.declared.keys.Entry.{Entry}
+use Rattle.segment_manager.proofs.objects.FoundOrMade.{constructs-exists, finds, found-there, made_for, made_handle}
+use Rattle.segment_manager.proofs.objects.FoundOrMade.{makes, makes-nothing}
+use Rattle.segment_manager.proofs.objects.NewValues.{IsMadeNever, IsMadeNow, away-in, value-built, value-loose}
+use Rattle.segment_manager.proofs.objects.NotBegun.{key-taken, value-not_begun}
+use Rattle.segment_manager.proofs.objects.{NewKeys.key-seeks, NewValues.value-not_built, NewValues.value-ready}
+use Rattle.segment_manager.proofs.{directory.CommandSteps.step-segment, indexes.Bridge.lookup-absent}
+use Rattle.segment_manager.specs.containers.Filled.{FillsObject, HasBegun, IsShapeOf}
+use Rattle.segment_manager.specs.declared.containers.fillings.ObjectShape.{ObjectShape}
+use Rattle.segment_manager.specs.objects.{Found.found_object, PendingObjects.Ends, PendingObjects.IsEnding}
+use Rattle.segment_manager.specs.{Answers.Found, declared.objects.pending_object.PendingObject.PendingObject}
+use common.{Directory, Err, Exists, FindsOrConstructs, IfErr, Index, IsAbsentAt, IsNewKeyOf, IsObjectInBlock, IsSegment}
+use common.{Kind, List, Made, MakesValue, Mode, NoSpace, None, Object, Ok, Option, PendingEntry, Refusal, Refused}
+use common.{Reply, Result, SegmentState, Some, TakesStep, WindowState, answer_of, ap, bare, count_of, effect, false}
+use common.{false≢true, found, found_object_answer, handle_answer, handle_at, is_read_only, is_untouched, kind_of}
+use common.{none-some, object_at, pair_of_kind, refl, subst, sym, true, value_len, with_count, with_new_object, ℕ}
+use common.{◌∙◌, ◌≡◌, Answer, AnswersWith, BeginsObject, BeginsObjectErr, BeginsObjectFor, Command, Constructs, Content}
 
 -- ---- begun
 

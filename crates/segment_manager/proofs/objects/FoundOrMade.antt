@@ -1,15 +1,14 @@
 -- An object found under a key, or constructed if there is none, as a step of the machine.
 use Rattle.seg_types.specs.Commands as asked
-use Rattle.segment_manager.proofs.Common.{◌≡◌, sym, ap, ◌∙◌, ℕ, None, WindowState, Key, Made, Plan, Reply, bare}
-use Rattle.segment_manager.proofs.Common.{SegmentState, found, refl, if◌then◌else◌, found_object_answer}
-use Rattle.segment_manager.proofs.Common.{with_new_object, pair_of_kind, is_read_only, false, Option, Result, handle}
-use Rattle.segment_manager.proofs.Common.{Exists, Answer, Object, Refuse, TakesStep, effect, Some, Refusal, NoSpace}
-use Rattle.segment_manager.proofs.Common.{Content, Refused, kind_of, IsObjectInBlock, AnswersWith, Command}
-use Rattle.segment_manager.proofs.Common.{SameSurroundings, WrongKind, same_kind, Directory, object_at, handle_at}
+use Rattle.segment_manager.proofs.Common.{Exists, IsObjectInBlock, Key, Made, NoSpace, None, Object, Option, Plan}
+use Rattle.segment_manager.proofs.Common.{Refusal, Refuse, Refused, Reply, Result, SameSurroundings, SegmentState, Some}
+use Rattle.segment_manager.proofs.Common.{TakesStep, WindowState, WrongKind, ap, bare, effect, false, found}
+use Rattle.segment_manager.proofs.Common.{found_object_answer, handle, handle_at, if◌then◌else◌, is_read_only, kind_of}
+use Rattle.segment_manager.proofs.Common.{object_at, pair_of_kind, refl, same_kind, sym, with_new_object, ℕ}
+use Rattle.segment_manager.proofs.Common.{◌∙◌, ◌≡◌, Answer, AnswersWith, Command, Content, DenotesCurrent, Directory}
 use Rattle.segment_manager.proofs.directory.CommandSteps.{by_no_change, by_step, lands, open-writing, step-plan}
-use Rattle.segment_manager.proofs.{Common.DenotesCurrent, directory.CommandSteps.step-refuse}
-use Rattle.segment_manager.proofs.{objects.Constructed.IsNewObject, objects.Constructed.IsNoObject, objects.Here.here}
-use Rattle.segment_manager.proofs.objects.KeyCalls.{kind-step}
+use Rattle.segment_manager.proofs.objects.{Constructed.IsNewObject, Constructed.IsNoObject, KeyCalls.kind-step}
+use Rattle.segment_manager.proofs.{directory.CommandSteps.step-refuse, objects.Here.here}
 
 -- ---- an object that is constructed
 

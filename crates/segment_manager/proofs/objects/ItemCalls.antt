@@ -2,33 +2,30 @@
 use Rattle.segment_manager.proofs.Common as common
 use Rattle.seg_types.specs.Names as names
 use Rattle.seg_types.specs.Commands as asked
-use common.{◌≡◌, sym, ap, ◌∙◌, Ok, Err, WindowState, ◌+◌, ◌*◌, ◌≤◌, ℤ, [], map, ◌<◌, pos, live, step, Plan, refl, true}
-use common.{Some, None, List, Made, SegmentState, Reply, Bool, arith, take, Extent, handle, place, Scalar, padded}
-use common.{subst, Directory, object_at, IsSegment, replicate, SameSurroundings, ChangesBytes, ConstructsFromItems}
-use common.{RestoresBlocks, ℕ, Option, Result, Exists, Object, TakesStep, effect, length, IsTrue, nat_lt, lt-ltb}
-use common.{le-ltb, perform, false, PendingEntry, list_all, take_all, Anonymous, ReadOnly, is_value, head_len, room_for}
-use common.{DenotesCurrent, Refusal, NoSpace, Command, Refused, current, resized, size_of, BeginsObjectOk}
-use common.{WritesUnindexedObject, Denotes, Numbers, BeginsObjectErr, length-map, ObjectRole, ScalarKind, OutOfRange}
-use common.{RefusesKey}
-use common.{LeadsThere, object_len, with_object, is_read_only, with_new_object, if◌then◌else◌, mul-le-mul_left}
-use common.{length-replicate, AllocatesOk, is_good_value, inl, inr, option_map, Mode, AnswersWith, IsObjectInBlock}
-use common.{handle_at, pair_of_kind, with_count, Index, Kind, IsAbsentAt, IsNewKeyOf, Write}
 use Rattle.seg_index.specs.declared.keys.Entry.{Entry}
-use Rattle.segment_manager.proofs.directory.CommandSteps.{step-segment, perform-new, refuses-read_only, by_no_change}
-use Rattle.segment_manager.proofs.directory.CommandSteps.{by_step, lands}
-use Rattle.segment_manager.proofs.directory.CommandSteps.{open-writing, step-plan, step-refuse}
-use Rattle.segment_manager.proofs.objects.Constructed.{IsMet, IsNewObject, numbers-met, restored-denotes, IsNoObject}
-use Rattle.segment_manager.proofs.objects.NewValues.{away-in, value-built, value-ready, no_key-none}
-use Rattle.segment_manager.proofs.objects.NotBegun.{key-taken, value-not_begun}
-use Rattle.segment_manager.proofs.objects.ArrayItems.{by-items, from-items}
-use Rattle.segment_manager.proofs.objects.FoundOrMade.{made_handle, makes}
-use Rattle.segment_manager.proofs.{objects.NewNumbers.numbers-made, objects.MadeValues.headed-change, objects.Here.here}
-use Rattle.segment_manager.proofs.{indexes.Bridge.lookup-absent, directory.HeapCalls.denotes-live}
+use Rattle.segment_manager.proofs.directory.CommandSteps.{by_no_change, by_step, lands, open-writing, perform-new}
+use Rattle.segment_manager.proofs.directory.CommandSteps.{refuses-read_only, step-plan, step-refuse, step-segment}
+use Rattle.segment_manager.proofs.objects.Constructed.{IsMet, IsNewObject, IsNoObject, numbers-met, restored-denotes}
 use Rattle.segment_manager.proofs.objects.NewKeys.{key-seeks, numbers-value}
-use Rattle.segment_manager.specs.objects.PendingObjects.{Ends, IsEnding, Fills}
-use Rattle.segment_manager.specs.objects.Items.{FindsOrTakes, FindsOrTakesIn, TakesItemsIn}
+use Rattle.segment_manager.proofs.objects.NewValues.{away-in, no_key-none, value-built, value-ready}
+use Rattle.segment_manager.proofs.objects.{ArrayItems.by-items, ArrayItems.from-items, NewNumbers.numbers-made}
+use Rattle.segment_manager.proofs.objects.{FoundOrMade.made_handle, FoundOrMade.makes, Here.here}
+use Rattle.segment_manager.proofs.objects.{MadeValues.headed-change, NotBegun.key-taken, NotBegun.value-not_begun}
+use Rattle.segment_manager.proofs.{directory.HeapCalls.denotes-live, indexes.Bridge.lookup-absent}
 use Rattle.segment_manager.specs.containers.Filled.{MakesValueOk, numbers_shape}
 use Rattle.segment_manager.specs.declared.containers.fillings.ObjectShape.{ObjectShape}
+use Rattle.segment_manager.specs.objects.Items.{FindsOrTakesIn, TakesItemsIn}
+use Rattle.segment_manager.specs.objects.PendingObjects.{Ends, Fills, IsEnding}
+use common.{ChangesBytes, Command, ConstructsFromItems, Denotes, DenotesCurrent, Directory, Err, Exists, Extent, Index}
+use common.{IsAbsentAt, IsNewKeyOf, IsObjectInBlock, IsSegment, IsTrue, Kind, LeadsThere, List, Made, Mode, NoSpace}
+use common.{None, Numbers, Object, ObjectRole, Ok, Option, OutOfRange, PendingEntry, Plan, ReadOnly, Refusal, Refused}
+use common.{RefusesKey, Reply, RestoresBlocks, Result, SameSurroundings, Scalar, ScalarKind, SegmentState, Some}
+use common.{TakesStep, WindowState, Write, WritesUnindexedObject, [], ap, arith, current, effect, false, handle}
+use common.{handle_at, head_len, if◌then◌else◌, inl, inr, is_good_value, is_read_only, is_value, le-ltb, length}
+use common.{length-map, length-replicate, list_all, live, lt-ltb, map, mul-le-mul_left, nat_lt, object_at, object_len}
+use common.{option_map, padded, pair_of_kind, perform, place, pos, refl, replicate, resized, room_for, size_of, step}
+use common.{subst, sym, take, take_all, true, with_count, with_new_object, with_object, ℕ, ℤ}
+use common.{◌*◌, ◌+◌, ◌<◌, ◌∙◌, ◌≡◌, ◌≤◌, AllocatesOk, Anonymous, AnswersWith, BeginsObjectErr, BeginsObjectOk, Bool}
 
 -- the numbers for which the machine allocates blocks: the items taken, or zeros if there are too few
 abbrev pub asked_for : ℕ → List ℤ → List ℤ
@@ -333,10 +330,6 @@ module _ (S : Type 0) {A : Type 0} (gives : S → Option A → S → Type 0) (wh
       pub items-segment : IsSegment c.bytes
       items-segment = step-segment s (record s { cut = c }) _ _ finished.step b
 
-      pub items-taken : ConstructsFromItems gives whole t (record s { cut = c }) key k count before after result
-      items-taken = subst (λ (u : SegmentState).
-          ConstructsFromItems gives whole u (record s { cut = c }) key k count before after result) view finished
-
 -- ---- found, or made of items
 
 module _ (S : Type 0) {A : Type 0} (gives : S → Option A → S → Type 0) (whole : A
@@ -405,13 +398,3 @@ found-segment b done = elim (done Write refl) [
     | inr o ↦ step-segment _ _ _ _ o.takes.step b
   ]
 ]
-
--- the object was found: no items are taken
-pub seen-found_items : {S A : Type 0} {gives : S → Option A → S → Type 0} {whole : A
-    → ℤ} {s t : SegmentState} (view : s ≡ t)
-    {c : WindowState} {key : names.Key} {k : ScalarKind} {count : ℕ} {before after : S} {r : Result (ℕ × ℕ) Refusal}
-    → is_read_only t.mode ≡ false → FindsOrTakesIn gives whole s.cut c key k count before after r
-    → FindsOrTakes gives whole t (record s { cut = c }) key k count before after r
-seen-found_items {gives = gives} {whole} {s} view {c} {key} {k} {count} {before} {after} {r} writing done =
-    subst (λ (u : SegmentState). FindsOrTakes gives whole u (record s { cut = c }) key k count before after r) view
-    (done s.mode (subst (λ (u : SegmentState). is_read_only u.mode ≡ false) (sym view) writing))

@@ -1,30 +1,28 @@
 -- The results of calls that look a key up, for each directory that the bytes denote.
 use Rattle.segment_manager.proofs.Common as common
 use Rattle.seg_types.specs.Commands as asked
-use common.{◌≡◌, Option, ne_eqb, Extent, handle, Absent, Object, length, Unique, IsBelow, AnswersQuery, Command}
-use common.{Refusal, refl, none-some, same_Some, extent_at, same_role, IsIndexOf, Directory, object_at, handle_at}
-use common.{IsSegment, sym, ◌∙◌, ℕ, ◌+◌, ◌<◌, [], ◌∷◌, WindowState, Key, live, Kind, Plan, Mode, step, Err, Ok, ap}
-use common.{Bool, true, ◌&&◌, ◌||◌, ◌==◌, Some, None, List, cond, find, Role, SegmentState, subst, Named, Reply, found}
-use common.{false, arith, BackingArray, Index, Entry, Found, Seeks, Answer, Number, Refuse, Result, effect, SaysAt}
-use common.{SaysOf, is_some, option_map, slice_get, ObjectRole, is_live_in, entries_of, objects_of, found_object_answer}
-use common.{IsInstance, list_any, eqb-true, bytes_of, ByHandle, HasIndex, index_at, DenotesCurrent, WrongKind}
-use common.{same_kind, HasObject, slice_get_within, entry_count, is_object_at, if◌then◌else◌, named_objects}
-use common.{unique_objects, pair_of_kind, current, live_of, FindsPosition, has_key, Denotes, table_of, AnswersWith}
-use common.{kind_of, IsObjectInBlock, count_of, Instance}
-use Rattle.segment_manager.proofs.indexes.Bridge.{lookup-absent, lookup-found, in-handles}
-use Rattle.segment_manager.proofs.directory.CommandSteps.{open-reading, IsOpenFor, step-refuse, step-reply}
-use Rattle.segment_manager.proofs.{objects.ObjectLists.found-handle, directory.HeapCalls.denotes-live}
-use Rattle.segment_manager.proofs.{directory.OneObject.handles-length}
-use Rattle.segment_manager.proofs.{directory.ExtentOrder.live-rises, directory.ExtentOrder.Rising}
-use Rattle.segment_manager.proofs.{indexes.HeldIndexes.denotes-index}
-use Rattle.segment_manager.proofs.indexes.EntryPlaces.{stands-at, all-at}
-use Rattle.segment_manager.proofs.objects.Here.{standing, here, nothing-if}
-use Rattle.segment_manager.proofs.blocks.OwnBlocks.{or-none, handle-is-object}
 use Rattle.std.specs.Bool.{then_some}
 use Rattle.block_tags.specs.contracts.tile.Role.{the_type}
-use denote.Enum.Bare.{sameb}
 use Rattle.seg_types.specs.Names.{NoKey}
+use Rattle.segment_manager.proofs.blocks.OwnBlocks.{handle-is-object, or-none}
+use Rattle.segment_manager.proofs.directory.CommandSteps.{IsOpenFor, open-reading, step-refuse, step-reply}
+use Rattle.segment_manager.proofs.directory.HeapCalls.{denotes-live}
+use Rattle.segment_manager.proofs.directory.{ExtentOrder.Rising, ExtentOrder.live-rises, OneObject.handles-length}
+use Rattle.segment_manager.proofs.indexes.Bridge.{in-handles, lookup-absent, lookup-found}
+use Rattle.segment_manager.proofs.indexes.{EntryPlaces.all-at, EntryPlaces.stands-at, HeldIndexes.denotes-index}
+use Rattle.segment_manager.proofs.objects.{Here.here, Here.nothing-if, Here.standing, ObjectLists.found-handle}
 use Rattle.segment_manager.specs.Answers.{Absent}
+use common.{ByHandle, Command, Denotes, DenotesCurrent, Directory, Entry, Err, Extent, FindsPosition, Found, HasIndex}
+use common.{HasObject, Index, Instance, IsBelow, IsIndexOf, IsInstance, IsObjectInBlock, IsSegment, Key, Kind, List}
+use common.{Mode, Named, None, Number, Object, ObjectRole, Ok, Option, Plan, Refusal, Refuse, Reply, Result, Role}
+use common.{SaysAt, SaysOf, Seeks, SegmentState, Some, Unique, WindowState, WrongKind, [], ap, arith, bytes_of, cond}
+use common.{count_of, current, effect, entries_of, entry_count, eqb-true, extent_at, false, find, found}
+use common.{found_object_answer, handle, handle_at, has_key, if◌then◌else◌, index_at, is_live_in, is_object_at, is_some}
+use common.{kind_of, length, list_any, live, live_of, named_objects, ne_eqb, none-some, object_at, objects_of}
+use common.{option_map, pair_of_kind, refl, same_Some, same_kind, same_role, slice_get, slice_get_within, step, subst}
+use common.{sym, table_of, true, unique_objects, ℕ}
+use common.{◌&&◌, ◌+◌, ◌<◌, ◌==◌, ◌||◌, ◌∙◌, ◌∷◌, ◌≡◌, Absent, Answer, AnswersQuery, AnswersWith, BackingArray, Bool}
+use denote.Enum.Bare.{sameb}
 
 -- ---- a handle from outside
 

@@ -2,30 +2,28 @@
 -- requests are met in order, or one is refused and all is given back.
 use Rattle.segment_manager.proofs.Common as common
 use Rattle.seg_types.specs.Names as names
-use common.{◌≡◌, sym, true, ◌&&◌, Some, None, List, find, Kind, Value, live, Plan, bare, refl, LiveSet, resized}
-use common.{EncodesLiveSet, live_of, Refusal, Content, FindsPosition, room_for, ap, Extent, place, KeepsBlocks}
-use common.{BackingArray, serves, Class, Index, Absent, Object, padded, subst, IsAbsentAt, IsReadyFor, LeadsThere}
-use common.{extents_of, object_len, entries_of, ◌∙◌, ℕ, ◌+◌, [], ◌∷◌, WindowState, Option, length, IsTrue}
-use common.{BeginsObjectOk, WritesUnindexedObject, Denotes, has_key, kind_of, IsGiven, and_from, SameSurroundings}
-use common.{ChangesBytes, laid-heap, IsNewKeyOf, RestoresBlocks, with_value, current, PendingEntry, WritesObjectHeader}
-use common.{IsReadyForEntry, count_of, IsDenied, table_of, head_len, bytes_of, added, index_at, AddKeeps, PreparesOk}
-use common.{prepared, IsSegment, DenotesCurrent, SameSurroundings-trans, BeginsAnonymous, is_good_value, value_extents}
-use common.{class_of_index, ObjectRole, AllocatesOk, is_kind_of, BeginsEntryOk, with_object, MakesValueOk, Anonymous}
-use common.{IsIndexOf, Directory, is_object, object_at, value_len, MakesValueErr, handle}
-use Rattle.segment_manager.proofs.objects.Taking.{IsMade, IsTaken, taken-growth, taken-index, growth-index}
-use Rattle.segment_manager.proofs.objects.Taking.{growth-stays, made-key, made-stays, restored-taken}
-use Rattle.segment_manager.proofs.objects.MadeValues.{empty-taken, made-object, made-taken, placed-next}
-use Rattle.segment_manager.proofs.objects.Constructed.{IsNewObject, IsNoObject, content-denied, content-entered}
-use Rattle.segment_manager.proofs.objects.NewKeys.{key-object, key-of, key-seeks, key-short, key-sort, object_of}
 use Rattle.seg_index.proofs.Laws.{ObjectStays, belongs-at, keeps-sorted, place_behind, place_small, stays-trans}
-use Rattle.segment_manager.proofs.{objects.Constructed.restored-denotes, objects.KindCodes.known-kind}
-use Rattle.segment_manager.proofs.{indexes.Bridge.lookup-absent, directory.HeapCalls.denotes-live}
-use Rattle.segment_manager.proofs.{directory.OneObject.denotes-with, objects.Heads.object-entry}
+use Rattle.seg_index.specs.{Sorted.BelongsAt, declared.keys.Entry.Entry}
+use Rattle.segment_manager.proofs.directory.{CommandSteps.perform-new, HeapCalls.denotes-live, OneObject.denotes-with}
+use Rattle.segment_manager.proofs.indexes.{Bridge.lookup-absent, HeldIndexes.denotes-index, HeldIndexes.denotes-sorted}
+use Rattle.segment_manager.proofs.objects.Constructed.{IsNewObject, IsNoObject, content-denied, content-entered}
+use Rattle.segment_manager.proofs.objects.MadeValues.{empty-taken, made-object, made-taken, placed-next}
+use Rattle.segment_manager.proofs.objects.NewKeys.{key-object, key-of, key-seeks, key-short, key-sort, object_of}
+use Rattle.segment_manager.proofs.objects.Taking.{IsMade, IsTaken, growth-index, growth-stays, made-key, made-stays}
+use Rattle.segment_manager.proofs.objects.Taking.{restored-taken, taken-growth, taken-index}
+use Rattle.segment_manager.proofs.objects.{Constructed.restored-denotes, Heads.object-entry, KindCodes.known-kind}
 use Rattle.segment_manager.proofs.{blocks.NewBlocks.allocated-serves, directory.LiveSet.adding}
-use Rattle.segment_manager.proofs.directory.CommandSteps.{perform-new}
-use Rattle.segment_manager.proofs.indexes.HeldIndexes.{denotes-index, denotes-sorted}
-use Rattle.seg_index.specs.{declared.keys.Entry.Entry, Sorted.BelongsAt}
-use Rattle.segment_manager.specs.objects.PendingObjects.{GivesAllBack, AddsPendingEntry}
+use Rattle.segment_manager.specs.objects.PendingObjects.{AddsPendingEntry, GivesAllBack}
+use common.{BeginsEntryOk, BeginsObjectOk, ChangesBytes, Class, Content, Denotes, DenotesCurrent, Directory}
+use common.{EncodesLiveSet, Extent, FindsPosition, Index, IsAbsentAt, IsDenied, IsGiven, IsIndexOf, IsNewKeyOf}
+use common.{IsReadyFor, IsReadyForEntry, IsSegment, IsTrue, KeepsBlocks, Kind, LeadsThere, List, LiveSet, MakesValueErr}
+use common.{MakesValueOk, None, Object, ObjectRole, Option, PendingEntry, Plan, PreparesOk, Refusal, RestoresBlocks}
+use common.{SameSurroundings, SameSurroundings-trans, Some, Value, WindowState, WritesObjectHeader}
+use common.{WritesUnindexedObject, [], added, and_from, ap, bare, bytes_of, class_of_index, count_of, current}
+use common.{entries_of, extents_of, find, handle, has_key, head_len, index_at, is_good_value, is_kind_of, is_object}
+use common.{kind_of, laid-heap, length, live, live_of, object_at, object_len, padded, place, prepared, refl, resized}
+use common.{room_for, serves, subst, sym, table_of, true, value_extents, value_len, with_object, with_value, ℕ}
+use common.{◌&&◌, ◌+◌, ◌∙◌, ◌∷◌, ◌≡◌, Absent, AddKeeps, AllocatesOk, Anonymous, BackingArray, BeginsAnonymous}
 
 -- ---- places
 

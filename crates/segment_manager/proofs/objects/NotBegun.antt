@@ -1,15 +1,14 @@
 -- An object that is not pending: the error, and the directory after it.
 use Rattle.seg_types.specs.Names as names
-use Rattle.segment_manager.proofs.Common.{◌≡◌, sym, ap, subst, ◌∙◌, inl, inr, Some, [], WindowState, place, Object}
-use Rattle.segment_manager.proofs.Common.{live, bare, refl, ObjectRole, BeginsObjectErr, RefusesKey, object_len}
-use Rattle.segment_manager.proofs.Common.{with_object, entries_of, current, NoSpace, Content, Denotes, kind_of}
-use Rattle.segment_manager.proofs.Common.{table_of, room_for, DenotesCurrent, SameSurroundings, AllocatesNoSpace}
-use Rattle.segment_manager.proofs.Common.{Anonymous, Directory, object_at, value_len, with_value}
-use Rattle.segment_manager.proofs.objects.NewValues.{no_key-none, away-in, IsMadeNever}
-use Rattle.segment_manager.proofs.indexes.Bridge.{lookup-absent, lookup-found}
-use Rattle.segment_manager.proofs.{directory.HeapCalls.denotes-live, indexes.HeldIndexes.denotes-index}
-use Rattle.segment_manager.proofs.{objects.NewKeys.key-seeks, directory.CommandSteps.perform-no_space}
-use Rattle.segment_manager.proofs.objects.Constructed.{content-none, restored-denotes}
+use Rattle.segment_manager.proofs.Common.{DenotesCurrent, Directory, NoSpace, Object, ObjectRole, RefusesKey}
+use Rattle.segment_manager.proofs.Common.{SameSurroundings, Some, WindowState, [], ap, bare, current, entries_of, inl}
+use Rattle.segment_manager.proofs.Common.{inr, kind_of, live, object_at, object_len, place, refl, room_for, subst, sym}
+use Rattle.segment_manager.proofs.Common.{table_of, value_len, with_object, with_value}
+use Rattle.segment_manager.proofs.Common.{◌∙◌, ◌≡◌, AllocatesNoSpace, Anonymous, BeginsObjectErr, Content, Denotes}
+use Rattle.segment_manager.proofs.directory.{CommandSteps.perform-no_space, HeapCalls.denotes-live}
+use Rattle.segment_manager.proofs.indexes.{Bridge.lookup-absent, Bridge.lookup-found, HeldIndexes.denotes-index}
+use Rattle.segment_manager.proofs.objects.NewValues.{IsMadeNever, away-in, no_key-none}
+use Rattle.segment_manager.proofs.objects.{Constructed.content-none, Constructed.restored-denotes, NewKeys.key-seeks}
 use Rattle.segment_manager.specs.objects.PendingObjects.{BeginsEntryErr}
 
 -- ---- it is not begun

@@ -1,19 +1,18 @@
 -- The payload of a block, as it is lent and as contracts count its room, and an object written there piece by piece:
 -- the words of its head, its name, its elements.
-use Rattle.segment_manager.proofs.Common.{◌≡◌, sym, ap, subst, ◌∙◌, ℕ, ◌+◌, ◌-◌, ◌≤◌, inl, List, length, arith, IsTrue}
-use Rattle.segment_manager.proofs.Common.{WindowState, HasBytesAt, bytes_of, part, read, word_at, current, LiveSet}
-use Rattle.segment_manager.proofs.Common.{ChangesBytes, IsHeap}
-use Rattle.segment_manager.proofs.Common.{EncodesLiveSet, has_room, is_live_in, live_of, HasBytesAt-same}
-use Rattle.segment_manager.proofs.Common.{SameBytes-word, SameBytesExcept-SameBytes}
-use Rattle.segment_manager.proofs.Common.{changed-live, room_block, ◌*◌, ◌<◌, ◌++◌, replicate, take, mul-le-mul_left}
-use Rattle.segment_manager.proofs.Common.{length-replicate, Kind, Class, class_code, code_of, padded, padded_name}
-use Rattle.segment_manager.proofs.{Common.two_halves, Common.IsHeadAt, Common.repeated, objects.Slices.repeated-more}
-use Rattle.segment_manager.proofs.{Common.changed-room, blocks.NewBlocks.changed-trans, objects.Slices.repeated-length}
-use Rattle.best_fit.specs.Heap.{payload_at}
-use Rattle.raw_region.proofs.{Laws.length-part, Laws.part-part, Laws.read-part, Bytes.HasBytesAt-append}
-use Rattle.best_fit.proofs.Laws.{block_payload, room-less}
-use Rattle.seg_vector.proofs.storage.Storage.{live-if}
 use Rattle.std.proofs.lemmas.List.{take-replicate}
+use Rattle.raw_region.proofs.{Bytes.HasBytesAt-append, Laws.length-part, Laws.part-part, Laws.read-part}
+use Rattle.best_fit.proofs.Laws.{block_payload, room-less}
+use Rattle.best_fit.specs.Heap.{payload_at}
+use Rattle.seg_vector.proofs.storage.Storage.{live-if}
+use Rattle.segment_manager.proofs.Common.{HasBytesAt, HasBytesAt-same, IsHeadAt, IsHeap, IsTrue, Kind, List, LiveSet}
+use Rattle.segment_manager.proofs.Common.{SameBytes-word, SameBytesExcept-SameBytes, WindowState, ap, arith, bytes_of}
+use Rattle.segment_manager.proofs.Common.{changed-live, changed-room, class_code, code_of, current, has_room, inl}
+use Rattle.segment_manager.proofs.Common.{is_live_in, length, length-replicate, live_of, mul-le-mul_left, padded}
+use Rattle.segment_manager.proofs.Common.{padded_name, part, read, repeated, replicate, room_block, subst, sym, take}
+use Rattle.segment_manager.proofs.Common.{◌*◌, ◌++◌, ◌+◌, ◌-◌, ◌<◌, ◌∙◌, ◌≡◌, ◌≤◌, ChangesBytes, Class, EncodesLiveSet}
+use Rattle.segment_manager.proofs.objects.Slices.{repeated-length, repeated-more}
+use Rattle.segment_manager.proofs.{Common.two_halves, Common.word_at, Common.ℕ, blocks.NewBlocks.changed-trans}
 
 -- ---- blocks with room are in use
 

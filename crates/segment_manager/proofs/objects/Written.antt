@@ -1,27 +1,26 @@
 -- A number of a key's object is written: the directory of the bytes after it is the step's.
 use Rattle.segment_manager.proofs.Common as common
 use Rattle.seg_types.specs.Commands as asked
-use common.{◌≡◌, refl, sym, ap, subst, ◌∙◌, ℕ, zero, suc, ◌+◌, ◌*◌, ◌<◌, ◌≤◌, ℤ, Bool, true, false, Some, None, Ok, Err}
-use common.{List, [], ◌∷◌, length, arith, IsTrue, list_all, mul-le-mul_left, slice_get_within, current, HasBytesAt}
-use common.{bytes_of, ScalarKind, Scalar, Refusal, is_value, size_of, spelling, Key, spelled, Numbers, Object}
-use common.{Directory, count_of, is_object, kind_of, padded, value_len, Denotes, IsValueAt, AnswersWith, SegmentState}
-use common.{Literal, value_of_literal, Mode, Refused, Done, live, perform, IsSegment, step_of_kind, done_answer, ◌&&◌}
-use common.{nat_le, and_from, WindowState, SameBytesExcept, ObjectRole, ChangesBytes, serves, literal_of, has_good_name}
-use common.{value_extents, with_changed, TakesStepOfKind, is_read_only}
-use Rattle.segment_manager.proofs.directory.CommandSteps.{step_of_kind-found, by_no_change_of_kind, by_step_of_kind}
-use Rattle.segment_manager.proofs.objects.Stored.{ElementAt, numbers-good, element-found, element-missing}
-use Rattle.segment_manager.proofs.objects.Stored.{numbers-stand, set-effect, element-kind, missing-steps, literal-read}
-use Rattle.segment_manager.proofs.containers.Safely.{Answered, answered, done-so}
-use Rattle.segment_manager.specs.{Keeping.ChangesElement, objects.Standing.place_at}
-use Rattle.std.specs.Prelude.{IfOk}
-use Rattle.segment_manager.proofs.directory.CommandSteps.{lands, open-writing}
-use Rattle.segment_manager.proofs.objects.Rewritten.{value_start, with_value}
-use Rattle.segment_manager.proofs.{objects.Slices.HasBytesAt-set, directory.Frame.object-roomy}
-use Rattle.segment_manager.proofs.{blocks.Blocks.spelling-length, objects.ObjectLists.key-found}
-use Rattle.segment_manager.proofs.objects.Exchanged.{denotes-rewritten}
-use Rattle.raw_region.proofs.Facts.{second, first}
-use Rattle.best_fit.specs.declared.places.Place.{Place}
 use Rattle.std.proofs.{Common.set, lemmas.List.length-set}
+use Rattle.std.specs.Prelude.{IfOk}
+use Rattle.raw_region.proofs.Facts.{first, second}
+use Rattle.best_fit.specs.declared.places.Place.{Place}
+use Rattle.segment_manager.proofs.blocks.Blocks.{spelling-length}
+use Rattle.segment_manager.proofs.containers.Safely.{Answered, answered, done-so}
+use Rattle.segment_manager.proofs.directory.CommandSteps.{by_no_change_of_kind, by_step_of_kind, lands, open-writing}
+use Rattle.segment_manager.proofs.directory.{CommandSteps.step_of_kind-found, Frame.object-roomy}
+use Rattle.segment_manager.proofs.objects.Stored.{ElementAt, element-found, element-kind, element-missing, literal-read}
+use Rattle.segment_manager.proofs.objects.Stored.{missing-steps, numbers-good, numbers-stand, set-effect}
+use Rattle.segment_manager.proofs.objects.{Exchanged.denotes-rewritten, Rewritten.value_start, Rewritten.with_value}
+use Rattle.segment_manager.proofs.objects.{ObjectLists.key-found, Slices.HasBytesAt-set}
+use Rattle.segment_manager.specs.{Keeping.ChangesElement, objects.Standing.place_at}
+use common.{HasBytesAt, IsSegment, IsTrue, IsValueAt, Key, List, Literal, Mode, None, Numbers, Object, ObjectRole, Ok}
+use common.{Refusal, Refused, SameBytesExcept, Scalar, ScalarKind, SegmentState, Some, TakesStepOfKind, WindowState, []}
+use common.{and_from, ap, arith, bytes_of, count_of, current, done_answer, false, has_good_name, is_object}
+use common.{is_read_only, is_value, kind_of, length, list_all, literal_of, live, mul-le-mul_left, nat_le, padded}
+use common.{perform, refl, serves, size_of, slice_get_within, spelled, spelling, step_of_kind, subst, suc, sym, true}
+use common.{value_extents, value_len, value_of_literal, with_changed, zero, ℕ, ℤ}
+use common.{◌&&◌, ◌*◌, ◌+◌, ◌<◌, ◌∙◌, ◌∷◌, ◌≡◌, ◌≤◌, AnswersWith, Bool, ChangesBytes, Denotes, Directory, Done, Err}
 
 -- ---- the numbers with one replaced
 

@@ -38,10 +38,6 @@ has_values (Texts ps t) = true
 abbrev pub container_place : Object → Place
 container_place o = record { handle = handle o.extent; at = head_len + padded (length o.name) }
 
--- the place of an object's container, if the object has the kind
-abbrev pub place_of_kind : Object → Kind → Result Place Refusal
-place_of_kind o kind = if same_kind kind (kind_of o.value) then Ok (container_place o) else Err WrongKind
-
 -- the place of the container of a key's object
 abbrev pub container_at : Directory → Key → Kind → Result Place Refusal
 container_at d key kind = elim (object_at d key) [

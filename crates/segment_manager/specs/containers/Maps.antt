@@ -11,7 +11,7 @@ use Rattle.seg_types.specs.declared.refusals.Refusal.TheVariants.{NotFound, Wron
 use Rattle.seg_types.specs.Kinds.{is_value, same_kind, scalar_code, size_of, spelling, value_of}
 use Rattle.best_fit.specs.declared.places.Place.{Place}
 use Rattle.seg_map.specs.Numbers.{NumberPair}
-use Rattle.seg_map.specs.Listing.{pairs_past, with_nodes, with_pairs}
+use Rattle.seg_map.specs.Listing.{pairs_past, with_nodes}
 use Rattle.seg_map.specs.Places.{HoldsMap, final_pair, first_pair, item_of, last_pair}
 use Rattle.segment_manager.specs.{Answers.Answer, Answers.Absent, Answers.Element, Directory.object_at, State.answer_of}
 use Rattle.segment_manager.specs.Directory.{Value, Numbers, Elements, Bytes, Pairs, Texts, Directory, kind_of}
@@ -79,21 +79,13 @@ pair_below key ps = option_map item_of (last_pair int_lt false key ps)
 abbrev pub pair_at_end : List NumberPair → Option (ℤ × ℤ)
 pair_at_end ps = option_map item_of (final_pair ps)
 
--- how many of the pairs from a number on, or above it, are read into this many places
+-- how many of the pairs from a number on, or above it, are listed in this many places
 abbrev pub count_read : Bool → ℤ → ℕ → List NumberPair → ℕ
 count_read past from places ps = min places (length (pairs_past int_lt past from ps))
-
--- the list with these pairs in its first places, as many as `places`
-abbrev pub pairs_read : Bool → ℤ → ℕ → List (ℤ × ℤ) → List NumberPair → List (ℤ × ℤ)
-pairs_read past from places list ps = with_pairs (take places (pairs_past int_lt past from ps)) list
 
 -- the list with the nodes of these pairs in its first places, as many as `places`
 abbrev pub nodes_read : Bool → ℤ → ℕ → List ℕ → List NumberPair → List ℕ
 nodes_read past from places list ps = with_nodes (take places (pairs_past int_lt past from ps)) list
-
--- a key and a value as numbers
-abbrev pub number_item : {K V : Type 0} → (K → ℤ) → (V → ℤ) → K × V → ℤ × ℤ
-number_item k v (x, y) = (k x, v y)
 
 -- a key and a value, or none, as numbers
 abbrev pub numbers_in : {K V : Type 0} → (K → ℤ) → (V → ℤ) → Option (K × V) → Option (ℤ × ℤ)

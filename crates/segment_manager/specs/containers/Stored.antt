@@ -9,8 +9,8 @@ use Rattle.best_fit.specs.declared.places.Place.{Place}
 use Rattle.seg_vector.specs.Elements.{ShrinksStorage, Truncates}
 use Rattle.seg_vector.specs.Containers.{ReservesStorage, IsStanding}
 use Rattle.seg_vector.specs.TextsCalls.{ClearsTexts, ReservesNoTexts, ReservesTexts, ShrinksTexts}
-use Rattle.segment_manager.specs.declared.containers.storages.Change.{Change}
-use Rattle.segment_manager.specs.declared.containers.storages.Change.TheVariants.{Clear, Reserve, Shrink}
+use Rattle.segment_manager.specs.declared.containers.storage.Change.{Change}
+use Rattle.segment_manager.specs.declared.containers.storage.Change.TheVariants.{Clear, Reserve, Shrink}
 use Rattle.segment_manager.specs.{Answers.Answer, Directory.Directory, Keeping.HasCapacity}
 use Rattle.segment_manager.specs.State.{TakesStepOfKind, SegmentState, done_answer}
 

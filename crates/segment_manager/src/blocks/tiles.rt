@@ -1,16 +1,18 @@
-//! The blocks and gaps of a segment.
-ghost use Rattle.std.specs.Prelude.{◌≡◌, ◌+◌, ℕ, Some, OnErr, OnOk, length, option_map, slice_get};
+//! The blocks and gaps of a segment, and an iterator over them.
+ghost use Rattle.std.specs.Iterator.{at_most};
+ghost use Rattle.std.specs.Prelude.{◌+◌, ◌-◌, ◌≡◌, OnErr, OnOk, Some, length, option_map, slice_get, ℕ};
 ghost use Rattle.raw_region.specs.{Format.current, Memory.bytes_of};
 ghost use Rattle.block_tags.specs.Tiles.{tiles_of};
 ghost use Rattle.best_fit.specs.{Extents.spans, FreeTree.span, Heap.IsTileOf, Heap.ZeroesFree};
 ghost use Rattle.seg_types.specs.Commands.{AllDeallocated, Sanity, ZeroFree};
-ghost use Rattle.segment_manager.specs.{Answers.Boolean, Directory.live, indexes.Iterating.is_own_span};
-ghost use Rattle.segment_manager.specs.Calls.{HasZeroGaps, IsTileOfIndex, as_span};
-ghost use Rattle.segment_manager.specs.State.{AnswersWith, AnswersQuery, TakesStep, done_answer};
+ghost use Rattle.segment_manager.specs.State.{AnswersQuery, AnswersWith, TakesStep, done_answer};
+ghost use Rattle.segment_manager.specs.{Answers.Boolean, indexes.Iterating.GoesOnTiles, indexes.Iterating.is_own_span};
+ghost use Rattle.segment_manager.specs.{Calls.HasZeroGaps, Calls.IsTileOfIndex, Calls.as_span, Directory.live};
 
 use crate::segment::Segment;
 use block_tags::{Role, Tile};
 use seg_types::Refusal;
+use std::marker::Model;
 
 /// A block in use or a gap.
 #[derive(Clone, Copy, Debug, PartialEq, Eq)]
@@ -46,6 +48,46 @@ impl TileInfo {
     }
 }
 
+/// An iterator over the blocks and gaps of a segment, by offset. A walk over all of them takes one step for each.
+///
+/// In contracts it is the segment, and the number of blocks and gaps returned so far.
+#[derive(Drop)]
+pub struct Tiles<'a> {
+    segment: &'a Segment,
+    tile: Option<Tile>,
+    at: u64,
+}
+
+impl<'a> Model for Tiles<'a> {
+    ghost use Rattle.segment_manager.specs.Calls.{IsTileOfIndex};
+    ghost use Rattle.segment_manager.specs.indexes.Iterating.{TileWalk};
+
+    ghost Value = { TileWalk };
+
+    ghost view = { λ w. record { segment = w.segment.now; at = w.at } };
+
+    ghost invariant = { λ w. IsTileOfIndex w.segment.now w.at w.tile };
+}
+
+impl<'a> Iterator for Tiles<'a> {
+    type Item = TileInfo;
+
+    ghost next_gives = { GoesOnTiles };
+
+    ghost remaining = { λ w. at_most
+        (length (tiles_of (bytes_of w.segment.cut.bytes) (length w.segment.cut.bytes)) - w.at) };
+
+    fn next(&mut self) -> Option<TileInfo> {
+        let tile = self.tile?;
+        let segment = self.segment;
+        // The segment's bytes bound the number of its tiles, so 64 bits count them.
+        let _ = segment.as_bytes();
+        self.at += 1;
+        self.tile = next_tile(segment, tile);
+        Some(TileInfo::of(tile))
+    }
+}
+
 impl Segment {
     /// Returns the first block or gap, or `None` if there is none, as in a segment of 144 bytes.
     ///
@@ -65,6 +107,19 @@ impl Segment {
     {
         let tile = self.heap.tile(index)?;
         Some(TileInfo::of(tile))
+    }
+
+    /// Returns an iterator over the blocks and gaps, by offset.
+    ///
+    /// Example: `for span in segment.tiles()`.
+    pub fn tiles(&self) -> Tiles<'_>
+        ensures { result ≡ record { segment = self.now; at = 0 } }
+    {
+        Tiles {
+            segment: self,
+            tile: self.first_tile(),
+            at: 0,
+        }
     }
 
     /// Checks the tags and returns true if they are whole, as in each segment.

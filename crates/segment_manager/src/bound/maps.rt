@@ -1,17 +1,19 @@
 //! Maps that were looked up once.
-ghost use Rattle.std.specs.Prelude.{◌≡◌, ◌≤◌, IfErr, Ok, OnErr, length, map, min};
-ghost use Rattle.segment_manager.specs.containers.Maps.{count_read, nodes_read, number_item, pairs_read};
-ghost use Rattle.segment_manager.specs.containers.Walks.{HasPairNode, ReadsPairNode};
+ghost use Rattle.std.specs.Prelude.{◌≡◌, ◌≤◌, IfErr, Ok, OnErr, length};
 ghost use Rattle.seg_types.specs.Commands.{Lookup, Put, Remove, literal_of};
 ghost use Rattle.seg_types.specs.declared.kinds.Kind.TheVariants.{Map as MapOf};
 ghost use Rattle.seg_types.specs.declared.refusals.Refusal.TheVariants.{NoSpace as NoSpaceLeft};
+ghost use Rattle.seg_map.specs.Places.{IsSomeMap};
 ghost use Rattle.segment_manager.specs.Keeping.{ChangesValue, LacksPair, UnchangedWhere};
-ghost use Rattle.segment_manager.specs.State.{AnswersWith, AnswersQueryOfKind, TakesStepOfKind, truth_answer};
-ghost use Rattle.segment_manager.specs.containers.Maps.{answer_of_map, numbers_in, pair_above, pair_at_end};
-ghost use Rattle.segment_manager.specs.containers.Maps.{pair_below, pair_from, pair_up_to, value_answer};
-ghost use Rattle.segment_manager.specs.objects.BoundObjects.{key_of};
+ghost use Rattle.segment_manager.specs.State.{AnswersQueryOfKind, AnswersWith, IsSegment, TakesStepOfKind};
+ghost use Rattle.segment_manager.specs.State.{truth_answer};
+ghost use Rattle.segment_manager.specs.containers.Maps.{answer_of_map, count_read, nodes_read, numbers_in, pair_above};
+ghost use Rattle.segment_manager.specs.containers.Maps.{pair_at_end, pair_below, pair_from, pair_up_to, value_answer};
+ghost use Rattle.segment_manager.specs.containers.Walks.{HasPairNode, ReadsPairNode};
+ghost use Rattle.segment_manager.specs.objects.BoundObjects.{container_of, key_of};
 
 use crate::bound::{Bound, BoundContent, BoundMut};
+use best_fit::Heap;
 use raw_region::Steps;
 use seg_map::SegMap;
 use seg_types::theorems::holds_value;
@@ -39,6 +41,18 @@ impl<K: Scalar, V: Scalar> BoundContent for Pairs<K, V> {
 }
 
 impl<'a, K: Scalar, V: Scalar> Bound<'a, Pairs<K, V>> {
+    /// Returns the heap of the segment, and the map of the object in that heap.
+    #[inline(always)]
+    fn map(&self) -> (&'a Heap, SegMap<K, V>)
+        ensures heap { result.0.now ≡ self.now.segment.now.cut }
+        ensures place { result.1.place ≡ container_of self.now.object }
+        ensures map { IsSomeMap K.Plain V.Plain result.0.now.bytes result.1.place.handle result.1.place.at }
+        ensures denotation { IsSegment result.0.now.bytes }
+    {
+        let segment = self.segment;
+        (&segment.heap, SegMap::at(self.object.own_container()))
+    }
+
     /// Returns the value of a map key, or `None` if the map lacks it.
     ///
     /// Example: `let year: Option<i64> = years.get(5)`.
@@ -49,8 +63,8 @@ impl<'a, K: Scalar, V: Scalar> Bound<'a, Pairs<K, V>> {
             (value_answer V.kind V.whole (Ok result)) }
     {
         holds_value(at);
-        let segment = self.segment;
-        SegMap::<K, V>::at(self.object.own_container()).get(&segment.heap, at, &mut Steps::new())
+        let (heap, map) = self.map();
+        map.get(heap, at, &mut Steps::new())
     }
 
     /// Returns the number of pairs.
@@ -60,8 +74,8 @@ impl<'a, K: Scalar, V: Scalar> Bound<'a, Pairs<K, V>> {
         ensures { AnswersWith self.now.segment.now (λ d.
             answer_of_map d (key_of self.now.object) K.kind V.kind length) (Ok result) }
     {
-        let segment = self.segment;
-        SegMap::<K, V>::at(self.object.own_container()).len(&segment.heap)
+        let (heap, map) = self.map();
+        map.len(heap)
     }
 
     /// Returns the first pair whose map key is not below `from`.
@@ -72,12 +86,8 @@ impl<'a, K: Scalar, V: Scalar> Bound<'a, Pairs<K, V>> {
             answer_of_map d (key_of self.now.object) K.kind V.kind (pair_from (K.whole from)))
             (Ok (numbers_in K.whole V.whole result)) }
     {
-        let segment = self.segment;
-        SegMap::<K, V>::at(self.object.own_container()).first_from(
-            &segment.heap,
-            from,
-            &mut Steps::new(),
-        )
+        let (heap, map) = self.map();
+        map.first_from(heap, from, &mut Steps::new())
     }
 
     /// Returns the next pair after the map key `after`.
@@ -88,31 +98,8 @@ impl<'a, K: Scalar, V: Scalar> Bound<'a, Pairs<K, V>> {
             answer_of_map d (key_of self.now.object) K.kind V.kind (pair_above (K.whole after)))
             (Ok (numbers_in K.whole V.whole result)) }
     {
-        let segment = self.segment;
-        SegMap::<K, V>::at(self.object.own_container()).next_after(
-            &segment.heap,
-            after,
-            &mut Steps::new(),
-        )
-    }
-
-    /// Reads the pairs whose map keys are not below `from`, or above it if `past` is set, by rising map keys, into the
-    /// first places of the list: as many as it has places for, and at most 32. Returns how many they are; the other
-    /// places keep what they have.
-    ///
-    /// Example: `let count = years.read_from(2, false, &mut list)`.
-    pub fn read_from(&self, from: K, past: bool, list: &mut [(K, V)]) -> usize
-        ensures count { AnswersWith self.now.segment.now (λ d.
-            answer_of_map d (key_of self.now.object) K.kind V.kind
-            (count_read past (K.whole from) (min (length list.old) 32))) (Ok result) }
-        ensures list { AnswersWith self.now.segment.now (λ d.
-            answer_of_map d (key_of self.now.object) K.kind V.kind
-            (pairs_read past (K.whole from) (min (length list.old) 32) (map (number_item K.whole V.whole) list.old)))
-            (Ok (map (number_item K.whole V.whole) list.new)) }
-    {
-        let segment = self.segment;
-        let map = SegMap::<K, V>::at(self.object.own_container());
-        map.read_from(&segment.heap, from, past, list, &mut Steps::new())
+        let (heap, map) = self.map();
+        map.next_after(heap, after, &mut Steps::new())
     }
 
     /// Lists the nodes of the pairs whose map keys are not below `from`, or above it if `past` is set, by rising map
@@ -129,9 +116,8 @@ impl<'a, K: Scalar, V: Scalar> Bound<'a, Pairs<K, V>> {
             (nodes_read past (K.whole from) (length list.old) list.old)) (Ok list.new) }
         ensures in_bounds { result ≤ length list.new }
     {
-        let segment = self.segment;
-        let map = SegMap::<K, V>::at(self.object.own_container());
-        map.nodes_from(&segment.heap, from, past, list, &mut Steps::new())
+        let (heap, map) = self.map();
+        map.nodes_from(heap, from, past, list, &mut Steps::new())
     }
 
     /// Returns the pair that has a node, as `nodes_from` lists them.
@@ -146,8 +132,8 @@ impl<'a, K: Scalar, V: Scalar> Bound<'a, Pairs<K, V>> {
         ensures { ReadsPairNode self.now.segment.now (key_of self.now.object) K.kind V.kind node
             (numbers_in K.whole V.whole result) }
     {
-        let segment = self.segment;
-        SegMap::<K, V>::at(self.object.own_container()).pair_of(&segment.heap, node)
+        let (heap, map) = self.map();
+        map.pair_of(heap, node)
     }
 
     /// Returns the last pair, or `None` if the map is empty.
@@ -158,8 +144,8 @@ impl<'a, K: Scalar, V: Scalar> Bound<'a, Pairs<K, V>> {
             answer_of_map d (key_of self.now.object) K.kind V.kind pair_at_end)
             (Ok (numbers_in K.whole V.whole result)) }
     {
-        let segment = self.segment;
-        SegMap::<K, V>::at(self.object.own_container()).last(&segment.heap, &mut Steps::new())
+        let (heap, map) = self.map();
+        map.last(heap, &mut Steps::new())
     }
 
     /// Returns the last pair whose map key is not above `to`.
@@ -170,12 +156,8 @@ impl<'a, K: Scalar, V: Scalar> Bound<'a, Pairs<K, V>> {
             answer_of_map d (key_of self.now.object) K.kind V.kind (pair_up_to (K.whole to)))
             (Ok (numbers_in K.whole V.whole result)) }
     {
-        let segment = self.segment;
-        SegMap::<K, V>::at(self.object.own_container()).last_up_to(
-            &segment.heap,
-            to,
-            &mut Steps::new(),
-        )
+        let (heap, map) = self.map();
+        map.last_up_to(heap, to, &mut Steps::new())
     }
 
     /// Returns the previous pair before the map key `before`.
@@ -186,12 +168,8 @@ impl<'a, K: Scalar, V: Scalar> Bound<'a, Pairs<K, V>> {
             answer_of_map d (key_of self.now.object) K.kind V.kind (pair_below (K.whole before)))
             (Ok (numbers_in K.whole V.whole result)) }
     {
-        let segment = self.segment;
-        SegMap::<K, V>::at(self.object.own_container()).previous_before(
-            &segment.heap,
-            before,
-            &mut Steps::new(),
-        )
+        let (heap, map) = self.map();
+        map.previous_before(heap, before, &mut Steps::new())
     }
 }
 

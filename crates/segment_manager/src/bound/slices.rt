@@ -1,5 +1,6 @@
 //! Arrays and vectors of scalars that were looked up once.
-ghost use Rattle.std.specs.Prelude.{◌≡◌, ◌+◌, ◌⊎◌, IfErr, Ok, OnErr, OnOk, length, map, nat_le};
+ghost use Rattle.std.specs.{Prelude.◌≡◌, Prelude.◌+◌, Prelude.◌⊎◌, Prelude.IfErr, Prelude.IsTrue, Prelude.Ok};
+ghost use Rattle.std.specs.{Prelude.OnErr, Prelude.OnOk, Prelude.length, Prelude.map, Prelude.nat_le, List.list_all};
 ghost use Rattle.best_fit.specs.Heap.{KeepsGaps};
 ghost use Rattle.seg_types.specs.declared.kinds.Kind.{Kind as AnyKind};
 ghost use Rattle.seg_types.specs.declared.kinds.Kind.TheVariants.{Scalar as ScalarOf, Vector as VectorOf};
@@ -16,7 +17,6 @@ ghost use Rattle.segment_manager.specs.State.{AnswersWith, answer_of, done_answe
 
 use crate::bound::{Bound, BoundContent, BoundMut};
 use crate::containers::fillings::LONGEST;
-use crate::containers::vectors::judge_all;
 use crate::objects::element::element;
 use crate::objects::object_ref::Object;
 use crate::segment::Segment;
@@ -388,4 +388,13 @@ fn has_range(len: u64, first: u64, count: u64) -> bool
     ensures { result ≡ nat_le (first + count) len }
 {
     first <= len && count <= len - first
+}
+
+/// States that each of the values satisfies `is_value`.
+fn judge_all<T: Scalar>(values: &[T])
+    ensures { IsTrue (list_all T.is_value values.now) }
+{
+    for value in values {
+        holds_value(*value);
+    }
 }

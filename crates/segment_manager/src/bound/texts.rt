@@ -1,18 +1,17 @@
 //! Strings and vectors of strings that were looked up once.
-ghost use Rattle.std.specs.{Prelude.◌≡◌, Prelude.◌⊎◌, Prelude.◌∷◌, Prelude.[], Prelude.IfErr, Prelude.IsTrue};
-ghost use Rattle.std.specs.{Prelude.Ok, Prelude.OnErr, Prelude.length, Prelude.map, Prelude.pos, List.list_all};
+ghost use Rattle.std.specs.List.{list_all};
+ghost use Rattle.std.specs.Prelude.{◌∷◌, ◌≡◌, ◌⊎◌, IfErr, IsTrue, Ok, OnErr, [], length, map, pos};
 ghost use Rattle.raw_region.specs.Memory.{are_bytes};
 ghost use Rattle.best_fit.specs.Heap.{KeepsGaps};
 ghost use Rattle.seg_types.specs.Commands.{Append, Assign, Erase, Get, Insert, Pop, Push, Quoted, Set, literal_of};
 ghost use Rattle.seg_types.specs.declared.kinds.Kind.TheVariants.{String as StringKind, Strings as StringsKind};
 ghost use Rattle.seg_types.specs.declared.kinds.ScalarKind.TheVariants.{U8 as ByteKind};
 ghost use Rattle.seg_types.specs.declared.refusals.Refusal.TheVariants.{NoSpace as NoSpaceLeft, OutOfRange as PastEnd};
-ghost use Rattle.segment_manager.specs.{Answers.TextElement, containers.Contents.bytes_at};
 ghost use Rattle.segment_manager.specs.Keeping.{KeepsUnused, LacksArray, LacksFirst, UnchangedWhere};
 ghost use Rattle.segment_manager.specs.State.{AnswersQueryOfKind, AnswersWith, TakesStepOfKind, UnchangedIfRefused};
-ghost use Rattle.segment_manager.specs.State.{answer_of, done_answer, refusal_in};
-ghost use Rattle.segment_manager.specs.{containers.TextLists.LeadsOnOfKind};
-ghost use Rattle.segment_manager.specs.objects.{BoundObjects.key_of, ElementLists.length_at_kind};
+ghost use Rattle.segment_manager.specs.{Answers.TextElement, State.answer_of, State.done_answer, State.refusal_in};
+ghost use Rattle.segment_manager.specs.{containers.Contents.bytes_at, objects.BoundObjects.key_of};
+ghost use Rattle.segment_manager.specs.{containers.TextLists.LeadsOnOfKind, objects.ElementLists.length_at_kind};
 
 use crate::bound::{Bound, BoundContent, BoundMut};
 use raw_region::bytes_are_octets;

@@ -1,12 +1,10 @@
 //! Constructs objects that are vectors, strings or maps.
 ghost use Rattle.std.specs.Prelude.{map};
+ghost use Rattle.seg_types.specs.Commands.{Bytes, Elements, NoPairs, Strings};
 ghost use Rattle.seg_types.specs.declared.kinds.Kind.TheVariants.{Map as MapOf, String as StringKind};
 ghost use Rattle.seg_types.specs.declared.kinds.Kind.TheVariants.{Strings as StringsKind, Vector as VectorOf};
-ghost use Rattle.seg_types.specs.Commands.{Bytes, Elements, NoPairs, Strings};
-ghost use Rattle.segment_manager.specs.{containers.Filled.FindsOrMakes, containers.Filled.ConstructsObject};
-ghost use Rattle.segment_manager.specs.{Keeping.IsBoundKey};
-ghost use Rattle.segment_manager.specs.{Keeping.UnchangedWhere};
-ghost use Rattle.segment_manager.specs.State.{UnchangedIfRefused};
+ghost use Rattle.segment_manager.specs.containers.Filled.{ConstructsObject, FindsOrMakes};
+ghost use Rattle.segment_manager.specs.{Keeping.IsBoundKey, Keeping.UnchangedWhere, State.UnchangedIfRefused};
 
 use crate::containers::fillings::{NewMap, NewString, NewTexts, NewVector};
 use crate::objects::construct_keys::{ConstructKey, FindOrConstructKey};

@@ -1,14 +1,13 @@
 //! The places in the image of the elements of arrays, vectors of scalars and strings.
 ghost use Rattle.std.specs.Option.{unwrap_or};
-ghost use Rattle.std.specs.Prelude.{◌≡◌, ◌+◌, ◌%◌, ◌≤◌, IfOk, IsTrue};
+ghost use Rattle.std.specs.Prelude.{◌%◌, ◌+◌, ◌≡◌, ◌≤◌, IfOk, IsTrue};
 ghost use Rattle.raw_region.specs.{Format.current, Memory.bytes_of, Memory.word_at};
 ghost use Rattle.offset_link.specs.Link.{link_at};
 ghost use Rattle.best_fit.specs.Heap.{IsHeap, has_room, live_of};
 ghost use Rattle.segment_manager.specs.containers.ElementRuns.{IsRunOf, run_at, run_of};
+ghost use Rattle.segment_manager.specs.objects.Standing.{HasObject, IsObjectInBlock};
 ghost use Rattle.segment_manager.specs.{Directory.Object as DirectoryObject, State.AnswersWith};
-ghost use Rattle.segment_manager.specs.{objects.Located.IsObject, objects.Located.located};
-ghost use Rattle.segment_manager.specs.{objects.BoundObjects.key_of, objects.Standing.HasObject};
-ghost use Rattle.segment_manager.specs.{objects.Standing.IsObjectInBlock};
+ghost use Rattle.segment_manager.specs.{objects.BoundObjects.key_of, objects.Located.IsObject, objects.Located.located};
 
 use crate::objects::object_ref::{Object, ObjectRef, locate};
 use crate::segment::Segment;

@@ -1,21 +1,36 @@
-//! The capacity of vectors, strings and vectors of strings, and the number of elements of containers.
+//! The capacity of vectors, strings and vectors of strings, and the number of elements of containers. Containers with
+//! elements in their storage differ only in the length of an element.
 ghost use Rattle.std.specs.Prelude.{◌≡◌, Ok, OnErr, false, true};
 ghost use Rattle.seg_types.specs.Commands.{Clear, Reserve, Shrink};
-ghost use Rattle.segment_manager.specs.containers.Contents.{has_sizes, sizes_at};
-ghost use Rattle.segment_manager.specs.{Keeping.HasCapacity, containers.Stored.HasEnough, containers.Stored.command_of};
-ghost use Rattle.segment_manager.specs.{Keeping.UnchangedWhere, State.AnswersWith, State.TakesStep, State.done_answer};
-ghost use Rattle.segment_manager.specs.{Step.is_read_only, objects.BoundObjects.key_of, objects.Located.IsObject};
+ghost use Rattle.seg_vector.specs.TextsCalls.{IsTextsContainer};
+ghost use Rattle.segment_manager.specs.State.{AnswersWith, TakesStep, done_answer};
+ghost use Rattle.segment_manager.specs.containers.Stored.{ChangesElements, ChangesTexts, HasEnough, IsElements};
+ghost use Rattle.segment_manager.specs.containers.Stored.{command_of, each_of};
+ghost use Rattle.segment_manager.specs.objects.Located.{IsObject};
+ghost use Rattle.segment_manager.specs.{Keeping.HasCapacity, Keeping.UnchangedWhere, objects.BoundObjects.key_of};
+ghost use Rattle.segment_manager.specs.{Step.is_read_only, containers.Contents.has_sizes, containers.Contents.sizes_at};
 
-use crate::containers::storages::{Change, change_elements, change_texts, element_len};
 use crate::objects::object_ref::{Object, ObjectRef, locate};
 use crate::segment::Segment;
+use best_fit::Heap;
 use seg_types::{Kind, Refusal};
-use seg_vector::SegTexts;
+use seg_vector::{Place, SegTexts, reserve, shrink_storage, truncate};
 
 /// The offset of a container's number of elements or pairs; its capacity follows.
 const LEN: u64 = 8;
 
 const CAPACITY: u64 = 16;
+
+/// A change of a container's storage.
+#[derive(Clone, Copy)]
+pub(crate) enum Change {
+    /// Grows the capacity to at least this number of elements.
+    Reserve(u64),
+    /// Shrinks the capacity to the length.
+    Shrink,
+    /// Removes all elements. The capacity stays.
+    Clear,
+}
 
 impl Segment {
     /// Returns the length and the capacity of the vector or string, or the number of a map's pairs and 0.
@@ -111,6 +126,49 @@ fn change_object(segment: &mut Segment, object: Object, change: Change) -> Resul
         Kind::Strings => change_texts(&mut segment.heap, SegTexts { place }, change),
         kind => change_elements(&mut segment.heap, place, element_len(kind), change),
     }
+}
+
+/// Returns the length in bytes of an element of a vector of scalars, or of a string.
+pub(crate) fn element_len(kind: Kind) -> u64
+    ensures { result ≡ each_of kind }
+{
+    match kind {
+        Kind::Vector(element) => element.size(),
+        _ => 1,
+    }
+}
+
+/// Changes the storage of a vector of strings.
+#[inline(always)]
+pub(crate) fn change_texts(heap: &mut Heap, texts: SegTexts, change: Change) -> Result<(), Refusal>
+    requires { IsTextsContainer heap.old.bytes texts.place }
+    ensures { ChangesTexts change heap.old heap.new texts.place result }
+{
+    match change {
+        Change::Reserve(n) => return texts.reserve(heap, n),
+        Change::Shrink => texts.shrink(heap),
+        Change::Clear => texts.clear(heap),
+    }
+    Ok(())
+}
+
+/// Changes the storage of a container with elements of `each` bytes.
+#[inline(always)]
+pub(crate) fn change_elements(
+    heap: &mut Heap,
+    place: Place,
+    each: u64,
+    change: Change,
+) -> Result<(), Refusal>
+    requires { IsElements heap.old.bytes place each }
+    ensures { ChangesElements change heap.old heap.new place each result }
+{
+    match change {
+        Change::Reserve(n) => return reserve(heap, place, each, n),
+        Change::Shrink => shrink_storage(heap, place, each),
+        Change::Clear => truncate(heap, place, each, 0),
+    }
+    Ok(())
 }
 
 /// As [`Segment::reserve`] on a located object.

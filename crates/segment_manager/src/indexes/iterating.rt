@@ -1,14 +1,15 @@
-//! Iterators over the objects of an index, and over the names.
-ghost use Rattle.std.specs.{Prelude.◌≡◌, Prelude.◌-◌, Prelude.IfSome, Prelude.length, Iterator.UpTo, Iterator.at_most};
+//! Iterators over the objects of an index, and over the names: all of them, or those that do not precede a text.
 ghost use Rattle.std.specs.Iterator.SizeHint.{IsExactHint, IsWithinCount};
-ghost use Rattle.seg_index.specs.declared.index.Index.TheVariants.{Named, Unique};
+ghost use Rattle.std.specs.{Iterator.UpTo, Iterator.at_most, Prelude.◌-◌, Prelude.◌≡◌, Prelude.IfSome, Prelude.length};
 ghost use Rattle.seg_index.specs.Held.{entry_count, index_at};
-ghost use Rattle.segment_manager.specs.{indexes.Indexed.objects_of, indexes.Iterating.YieldsInstance};
-ghost use Rattle.segment_manager.specs.{indexes.Iterating.GoesOnNames, State.AnswersWith};
+ghost use Rattle.seg_index.specs.declared.index.Index.TheVariants.{Named, Unique};
+ghost use Rattle.segment_manager.specs.indexes.Iterating.{GoesOnNames, YieldsInstance};
+ghost use Rattle.segment_manager.specs.{State.AnswersWith, indexes.Indexed.objects_of, indexes.NamesFrom.IsFirstFrom};
 
 use crate::objects::instance_info::Instance;
 use crate::segment::Segment;
-use seg_index::Index;
+use raw_region::Steps;
+use seg_index::{Entry, Index, Lookup};
 use std::marker::Model;
 
 /// An iterator over the objects of one of the two indexes, in its order. It returns each object's `Instance` without a
@@ -121,11 +122,7 @@ impl Segment {
     pub fn named_instances(&self) -> Instances<'_>
         ensures { result ≡ record { segment = self.now; index = Named; at = 0 } }
     {
-        Instances {
-            segment: self,
-            index: Index::Named,
-            at: 0,
-        }
+        self.instances_of(Index::Named, 0)
     }
 
     /// Returns an iterator over the unique objects, in the order of the codes of their kinds.
@@ -134,10 +131,54 @@ impl Segment {
     pub fn unique_instances(&self) -> Instances<'_>
         ensures { result ≡ record { segment = self.now; index = Unique; at = 0 } }
     {
+        self.instances_of(Index::Unique, 0)
+    }
+
+    /// Returns the number of names that precede the text, which can be any bytes. This is the place of the first name
+    /// that does not. It takes one look-up in the index of names.
+    ///
+    /// Example: `let at = segment.named_place(b"prices/")`.
+    pub fn named_place(&self, text: &[u8]) -> u64
+        ensures { IsFirstFrom self.now text.now result }
+    {
+        match Index::Named.lookup(&self.heap, Entry::Name(text), &mut Steps::new()) {
+            Lookup::Found(place) => place,
+            Lookup::Absent(place) => place,
+        }
+    }
+
+    /// Returns an iterator over the named objects whose names do not precede the text, in the order of the bytes of
+    /// their names.
+    ///
+    /// Example: `for said in segment.named_instances_from(b"prices/")`.
+    pub fn named_instances_from(&self, text: &[u8]) -> Instances<'_>
+        ensures segment { result.segment ≡ self.now }
+        ensures index { result.index ≡ Named }
+        ensures first { IsFirstFrom self.now text.now result.at }
+    {
+        self.instances_of(Index::Named, self.named_place(text))
+    }
+
+    /// Returns an iterator over the names that do not precede the text, in the order of their bytes.
+    ///
+    /// Example: `for name in segment.names_from(b"prices/")`.
+    pub fn names_from(&self, text: &[u8]) -> Names<'_>
+        ensures segment { result.segment ≡ self.now }
+        ensures first { IsFirstFrom self.now text.now result.at }
+    {
+        Names {
+            instances: self.named_instances_from(text),
+        }
+    }
+
+    /// Returns an iterator over the objects of an index, from the one at a place on.
+    fn instances_of(&self, index: Index, at: u64) -> Instances<'_>
+        ensures { result ≡ record { segment = self.now; index = index; at = at } }
+    {
         Instances {
             segment: self,
-            index: Index::Unique,
-            at: 0,
+            index,
+            at,
         }
     }
 

@@ -1,21 +1,24 @@
-//! Destroys objects.
-ghost use Rattle.std.specs.Prelude.{◌≡◌, ℕ, OnErr, true, false};
-ghost use Rattle.seg_types.specs.Commands.{Destroy, DestroyPtr};
-ghost use Rattle.seg_types.specs.{Keys.index_key_seen, Names.ByHandle};
+//! Destroys objects, and frees the blocks of their values.
+ghost use Rattle.std.specs.Prelude.{◌≡◌, OnErr, false, true, ℕ};
+ghost use Rattle.seg_types.specs.{Commands.Destroy, Commands.DestroyPtr, Keys.index_key_seen, Names.ByHandle};
 ghost use Rattle.seg_index.specs.Sorted.{index_of};
-ghost use Rattle.segment_manager.specs.{objects.Found.is_object_at, Keeping.UnchangedWhere, Keeping.LacksKey};
-ghost use Rattle.segment_manager.specs.indexes.Listed.{HasEntries, IsListed};
-ghost use Rattle.segment_manager.specs.objects.Destroyed.{HoldsEntry, HoldsObject, RemovesAnonymous, RemovesEntry};
 ghost use Rattle.segment_manager.specs.State.{AnswersWith, TakesStep, gone_answer, truth_answer};
+ghost use Rattle.segment_manager.specs.containers.Maps.{HasPairs, ReleasesPairs};
+ghost use Rattle.segment_manager.specs.objects.Destroyed.{Empties, HoldsEntry, HoldsObject, RemovesAnonymous};
+ghost use Rattle.segment_manager.specs.{Keeping.LacksKey, Keeping.UnchangedWhere, objects.Destroyed.RemovesEntry};
+ghost use Rattle.segment_manager.specs.{indexes.Listed.HasEntries, indexes.Listed.IsListed, objects.Found.is_object_at};
 
-use crate::containers::releasing::release_contents;
+use crate::containers::storage::element_len;
+use crate::layout::value_at;
 use crate::objects::finding::entry_of;
 use crate::objects::head::{read_head, read_name};
 use crate::segment::Segment;
 use best_fit::Heap;
 use raw_region::Steps;
 use seg_index::{Entry, Index, Lookup};
-use seg_types::{Class, Handle, IndexKey, Refusal};
+use seg_map::SegMap;
+use seg_types::{Class, Handle, IndexKey, Kind, Refusal, Scalar, ScalarKind, by_kind};
+use seg_vector::{Place, SegTexts, free_storage};
 
 /// The place of an object's entry in an index.
 #[derive(Clone, Copy, Debug, PartialEq, Eq)]
@@ -124,4 +127,56 @@ fn remove_anonymous(heap: &mut Heap, object: Handle)
 {
     release_contents(heap, object);
     heap.deallocate(object, &mut Steps::new());
+}
+
+/// Frees the blocks of an object's value. A container is then empty, with capacity 0; numbers stay.
+fn release_contents(heap: &mut Heap, handle: u64)
+    requires { HoldsObject heap.old.bytes handle }
+    ensures { Empties heap.old heap.new handle }
+{
+    let head = read_head(heap, handle);
+    let place = Place {
+        handle,
+        at: value_at(u64::from(head.name_len)),
+    };
+    match head.kind {
+        Kind::Scalar(_) => {}
+        Kind::Map(keys, values) => release_pairs(heap, place, keys, values),
+        Kind::Strings => SegTexts { place }.release(heap),
+        kind => free_storage(heap, place, element_len(kind)),
+    }
+}
+
+/// Frees the blocks of the pairs of a map of two kinds.
+fn release_pairs(heap: &mut Heap, place: Place, keys: ScalarKind, values: ScalarKind)
+    requires { HasPairs keys values heap.old.bytes place }
+    ensures { ReleasesPairs keys values heap.old heap.new place }
+{
+    macro_rules! released {
+        ($type:ty, $kind:ident) => {
+            release_pairs_of::<$type>(heap, place, values)
+        };
+    }
+    by_kind!(keys, released)
+}
+
+/// Frees the blocks of the pairs of a map with map keys of a type.
+fn release_pairs_of<K: Scalar>(heap: &mut Heap, place: Place, values: ScalarKind)
+    requires { HasPairs K.kind values heap.old.bytes place }
+    ensures { ReleasesPairs K.kind values heap.old heap.new place }
+{
+    macro_rules! released {
+        ($type:ty, $kind:ident) => {
+            release_map::<K, $type>(heap, place)
+        };
+    }
+    by_kind!(values, released)
+}
+
+/// Frees the blocks of the pairs of a map of two types.
+fn release_map<K: Scalar, V: Scalar>(heap: &mut Heap, place: Place)
+    requires { HasPairs K.kind V.kind heap.old.bytes place }
+    ensures { ReleasesPairs K.kind V.kind heap.old heap.new place }
+{
+    SegMap::<K, V>::at(place).release(heap);
 }

@@ -1,14 +1,13 @@
 //! Finds objects by their keys, and by their entries in the two indexes.
-ghost use Rattle.std.specs.Prelude.{length, slice_get, Some, ◌≡◌};
-ghost use Rattle.seg_types.specs.declared.kinds.{Kind.Kind as AnyKind, Kind.TheVariants.Scalar as ScalarOf};
-ghost use Rattle.seg_types.specs.{Commands.Find, Commands.NumNamed, Commands.NumUnique, Keys.index_key_seen};
-ghost use Rattle.seg_types.specs.{Keys.key_seen, Names.Key as AnyKey};
+ghost use Rattle.std.specs.Prelude.{◌≡◌, Some, length, slice_get};
+ghost use Rattle.seg_types.specs.declared.kinds.Kind.TheVariants.{Scalar as ScalarOf};
+ghost use Rattle.seg_types.specs.{Commands.Find, Commands.NumNamed, Commands.NumUnique, Names.Key as AnyKey};
+ghost use Rattle.seg_types.specs.{Keys.index_key_seen, Keys.key_seen, declared.kinds.Kind.Kind as AnyKind};
 ghost use Rattle.seg_index.specs.Sorted.{index_of};
-ghost use Rattle.segment_manager.specs.{Answers.Number, Denotes.handles, State.AnswersWith, State.AnswersQuery};
-ghost use Rattle.segment_manager.specs.{indexes.Indexed.Seeks, objects.NewObjects.IsNewKeyOf};
-ghost use Rattle.segment_manager.specs.{objects.NewObjects.IsOfKind};
-ghost use Rattle.segment_manager.specs.Directory.{named_objects, unique_objects};
 ghost use Rattle.segment_manager.specs.objects.Found.{IsBelow, found_answer, handle_at};
+ghost use Rattle.segment_manager.specs.{Answers.Number, State.AnswersQuery, State.AnswersWith};
+ghost use Rattle.segment_manager.specs.{Denotes.handles, objects.NewObjects.IsNewKeyOf, objects.NewObjects.IsOfKind};
+ghost use Rattle.segment_manager.specs.{Directory.named_objects, Directory.unique_objects, indexes.Indexed.Seeks};
 
 use crate::objects::finding_or_constructing::found_of;
 use crate::segment::Segment;

@@ -1,15 +1,13 @@
 //! Finds objects, or constructs them if there are none: objects of any contents, and arrays with several copies of one
 //! number.
 ghost use Rattle.std.specs.Prelude.{◌≡◌, ◌≤◌, true};
-ghost use Rattle.seg_types.specs.{declared.kinds.Kind.TheVariants.Scalar as ScalarOf, Names.Key as AnyKey};
 ghost use Rattle.seg_types.specs.Values.{kind_of_scalar, value_of_scalar};
-ghost use Rattle.segment_manager.specs.{Directory.Object, Directory.kind_of, Keeping.IsBoundKey};
-ghost use Rattle.segment_manager.specs.{Keeping.UnchangedWhere, objects.Counted.RefusesCount};
-ghost use Rattle.segment_manager.specs.objects.Counted.{is_count};
-ghost use Rattle.segment_manager.specs.{objects.NewObjects.IsNewKeyOf, Plan.bare, objects.Standing.HasObject};
-ghost use Rattle.segment_manager.specs.{objects.Standing.IsObjectInBlock, objects.Standing.pair_of_kind};
+ghost use Rattle.seg_types.specs.{Names.Key as AnyKey, declared.kinds.Kind.TheVariants.Scalar as ScalarOf};
 ghost use Rattle.segment_manager.specs.containers.Filled.{FindsOrConstructs, FindsOrMakes, equal_numbers, with_count};
-ghost use Rattle.segment_manager.specs.State.{IsSegment, UnchangedIfRefused};
+ghost use Rattle.segment_manager.specs.objects.Standing.{HasObject, IsObjectInBlock, pair_of_kind};
+ghost use Rattle.segment_manager.specs.{Directory.Object, Directory.kind_of, State.IsSegment, State.UnchangedIfRefused};
+ghost use Rattle.segment_manager.specs.{Keeping.IsBoundKey, Keeping.UnchangedWhere, objects.NewObjects.IsNewKeyOf};
+ghost use Rattle.segment_manager.specs.{Plan.bare, objects.Counted.RefusesCount, objects.Counted.is_count};
 
 use crate::containers::fillings::{MAX_COUNT, NewNumbers, ObjectInit};
 use crate::objects::construct_keys::FindOrConstructKey;

@@ -1,10 +1,9 @@
 //! Finds arrays of scalars, or constructs them from the items of an iterator if there are none.
-ghost use Rattle.std.specs.Prelude.{◌≡◌, ◌≤◌, true, false};
-ghost use Rattle.seg_types.specs.Names.{Key as AnyKey};
-ghost use Rattle.seg_types.specs.declared.kinds.Kind.TheVariants.{Scalar as ScalarOf};
-ghost use Rattle.segment_manager.specs.{objects.Counted.RefusesCount, objects.Counted.is_count};
-ghost use Rattle.segment_manager.specs.{objects.Items.FindsOrTakes, objects.Items.FindsOrTakesIn, State.IsSegment};
-ghost use Rattle.segment_manager.specs.{objects.NewObjects.IsNewKeyOf};
+ghost use Rattle.std.specs.Prelude.{◌≡◌, ◌≤◌, false, true};
+ghost use Rattle.seg_types.specs.{Names.Key as AnyKey, declared.kinds.Kind.TheVariants.Scalar as ScalarOf};
+ghost use Rattle.segment_manager.specs.objects.Counted.{RefusesCount, is_count};
+ghost use Rattle.segment_manager.specs.objects.NewObjects.{IsNewKeyOf};
+ghost use Rattle.segment_manager.specs.{State.IsSegment, objects.Items.FindsOrTakes, objects.Items.FindsOrTakesIn};
 
 use crate::containers::fillings::{MAX_COUNT, numbers};
 use crate::objects::construct_keys::FindOrConstructKey;

@@ -1,14 +1,13 @@
 //! The properties of an object, one or all of them, by its key or by its position in an index.
-ghost use Rattle.std.specs.Prelude.{length, true, MatchResult, ◌≡◌, Ok, Err, option_map};
+ghost use Rattle.std.specs.Prelude.{◌≡◌, Err, MatchResult, Ok, length, option_map, true};
 ghost use Rattle.raw_region.specs.Format.{current};
 ghost use Rattle.best_fit.specs.Heap.{IsHeap};
-ghost use Rattle.seg_types.specs.{Names.ByHandle, Keys.key_seen};
-ghost use Rattle.segment_manager.specs.Directory.{Object, named_objects, unique_objects, count_of};
-ghost use Rattle.segment_manager.specs.{objects.Found.IsBelow, objects.Found.is_object_at, indexes.Indexed.objects_of};
-ghost use Rattle.segment_manager.specs.{objects.Standing.HasObject, objects.Standing.IsObjectInBlock};
-ghost use Rattle.segment_manager.specs.{State.AnswersWith};
-ghost use Rattle.segment_manager.specs.{Calls.kind_at, Calls.told_at};
+ghost use Rattle.seg_types.specs.{Keys.key_seen, Names.ByHandle};
+ghost use Rattle.segment_manager.specs.Directory.{Object, count_of, named_objects, unique_objects};
 ghost use Rattle.segment_manager.specs.objects.Instances.{IsInstance, IsMissing, SaysAt, SaysOf, own_name};
+ghost use Rattle.segment_manager.specs.objects.Standing.{HasObject, IsObjectInBlock};
+ghost use Rattle.segment_manager.specs.{Calls.kind_at, Calls.told_at, State.AnswersWith};
+ghost use Rattle.segment_manager.specs.{indexes.Indexed.objects_of, objects.Found.IsBelow, objects.Found.is_object_at};
 
 use crate::objects::head::{read_head, read_name};
 use crate::objects::object_ref::ObjectRef;

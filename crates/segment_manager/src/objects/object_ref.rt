@@ -1,14 +1,12 @@
 //! The objects of keys.
-ghost use Rattle.std.specs.Prelude.{◌≡◌, ◌+◌, ◌*◌, ◌≤◌, IfOk, MatchResult, true};
-ghost use Rattle.seg_types.specs.declared.refusals.Refusal.TheVariants.{WrongKind as OtherKind};
-ghost use Rattle.seg_types.specs.Kinds.{size_of};
+ghost use Rattle.std.specs.Prelude.{◌*◌, ◌+◌, ◌≡◌, ◌≤◌, IfOk, MatchResult, true};
 ghost use Rattle.seg_types.specs.{Keys.key_seen, Keys.name_seen, Names.ByHandle, Names.ByName, Names.Key as AnyKey};
-ghost use Rattle.segment_manager.specs.{Directory.Object as DirectoryObject, Directory.kind_of};
+ghost use Rattle.seg_types.specs.{Kinds.size_of, declared.refusals.Refusal.TheVariants.WrongKind as OtherKind};
 ghost use Rattle.segment_manager.specs.objects.Found.{handle_at, is_object_at};
-ghost use Rattle.segment_manager.specs.{objects.Instances.IsMissing, objects.Standing.HasObject, State.AnswersWith};
-ghost use Rattle.segment_manager.specs.objects.Standing.{IsObjectInBlock};
 ghost use Rattle.segment_manager.specs.objects.Located.{IsLocated, element_in, located, value_offset};
-ghost use Rattle.segment_manager.specs.objects.BoundObjects.{container_of};
+ghost use Rattle.segment_manager.specs.objects.Standing.{HasObject, IsObjectInBlock};
+ghost use Rattle.segment_manager.specs.{Directory.Object as DirectoryObject, Directory.kind_of, State.AnswersWith};
+ghost use Rattle.segment_manager.specs.{objects.BoundObjects.container_of, objects.Instances.IsMissing};
 
 use crate::layout::{HALF, NAME_CLASS_AT, value_at};
 use crate::objects::head::read_head;

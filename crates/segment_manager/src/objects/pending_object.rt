@@ -1,14 +1,12 @@
 //! The construction of an object: it allocates its blocks and writes its head. After the object is filled, it links its
 //! entry, or frees the blocks.
-ghost use Rattle.std.specs.Prelude.{◌≡◌, ◌^◌, ◌<◌, ◌≤◌, length};
+ghost use Rattle.std.specs.Prelude.{◌<◌, ◌^◌, ◌≡◌, ◌≤◌, length};
 ghost use Rattle.raw_region.specs.Memory.{WindowState};
 ghost use Rattle.seg_types.specs.{Keys.new_key_seen, Names.Key as AnyKey, Names.NoKey};
-ghost use Rattle.seg_index.specs.{declared.keys.Entry.Entry as AnyEntry, Held.HasIndex, Held.index_at};
-ghost use Rattle.segment_manager.specs.objects.PendingObjects.{BeginsObject, BeginsEntry, Ends, GivesAllBack, IsEnding};
-ghost use Rattle.segment_manager.specs.objects.PendingObjects.{WritesUnindexedObject};
-ghost use Rattle.segment_manager.specs.{indexes.Indexed.class_of_index, objects.NewObjects.IsNewKeyOf};
-ghost use Rattle.segment_manager.specs.{objects.NewObjects.IsOfKind};
-ghost use Rattle.segment_manager.specs.State.{IsSegment};
+ghost use Rattle.seg_index.specs.{Held.HasIndex, Held.index_at, declared.keys.Entry.Entry as AnyEntry};
+ghost use Rattle.segment_manager.specs.objects.PendingObjects.{BeginsEntry, BeginsObject, Ends, GivesAllBack, IsEnding};
+ghost use Rattle.segment_manager.specs.{State.IsSegment, objects.NewObjects.IsNewKeyOf, objects.NewObjects.IsOfKind};
+ghost use Rattle.segment_manager.specs.{indexes.Indexed.class_of_index, objects.PendingObjects.WritesUnindexedObject};
 
 use crate::blocks::requesting::{Requested, request};
 use crate::containers::fillings::ObjectShape;

@@ -2,8 +2,7 @@
 ghost use Rattle.std.specs.{Prelude.◌≡◌, Prelude.◌-◌, Iterator.at_most};
 ghost use Rattle.segment_manager.specs.indexes.Iterating.{GoesOnObjects, GoesOnOwn, own_count};
 
-use crate::blocks::tiles::TileInfo;
-use crate::blocks::walking_tiles::Tiles;
+use crate::blocks::tiles::{TileInfo, Tiles};
 use crate::objects::instance_info::{Instance, instance_here};
 use crate::segment::Segment;
 use block_tags::TAG_LEN;

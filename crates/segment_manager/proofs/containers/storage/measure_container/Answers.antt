@@ -1,28 +1,13 @@
 -- The words of the located container are read.
-use Rattle.segment_manager.proofs.Common.{sym, ap, arith, bytes_of}
-use Rattle.segment_manager.proofs.bound.Places.{container-there}
-use Rattle.segment_manager.proofs.containers.OneLength.{measured, near-front, places-otherwise, places_in, word-room}
-use Rattle.segment_manager.proofs.containers.storage.measure_container.Goals as goal
+use Rattle.segment_manager.proofs.containers.OneLength.{measured, places-otherwise, places_in, word-room}
+use Rattle.segment_manager.proofs.{Common.ap, Common.arith, Common.bytes_of, Common.sym, bound.Places.container-there}
 use Rattle.segment_manager.specs.objects.BoundObjects.{key_of}
-
-pub overflow_add-place : goal.overflow_add-place
-overflow_add-place c =
-    let found = container-there c.requires.object c.own_container-place.ensures in
-    let near = near-front c.segment.view_is (key_of c.args.object) c.args.object.kind _ found c.requires.container
-    c.segment.invariant in
-    omega (arith, near)
+use Rattle.segment_manager.proofs.containers.storage.measure_container.Goals as goal
 
 pub word-len-requires : goal.word-len-requires
 word-len-requires c = word-room c.segment.view_is (key_of c.args.object) c.args.object.kind _
     (container-there c.requires.object c.own_container-place.ensures) c.requires.container c.segment.invariant 8
     (omega arith)
-
-pub overflow_add-place-in_default : goal.overflow_add-place-in_default
-overflow_add-place-in_default c =
-    let found = container-there c.requires.object c.own_container-place.ensures in
-    let near = near-front c.segment.view_is (key_of c.args.object) c.args.object.kind _ found c.requires.container
-    c.segment.invariant in
-    omega (arith, near)
 
 pub word-requires : goal.word-requires
 word-requires c = word-room c.segment.view_is (key_of c.args.object) c.args.object.kind _

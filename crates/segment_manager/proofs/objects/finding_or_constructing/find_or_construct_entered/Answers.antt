@@ -1,21 +1,16 @@
 -- An object is found under the entry, or made with one, or a block is refused.
-use Rattle.segment_manager.proofs.Common.{exit-is, ◌≡◌, sym, subst, Ok, Err, Write, Object, kind_of, Constructs}
-use Rattle.segment_manager.proofs.Common.{FindsOrConstructs, with_count, found_object_answer, IsNewKeyOf, bare}
-use Rattle.segment_manager.proofs.Common.{IsObjectInBlock}
-use Rattle.segment_manager.proofs.objects.FilledCalls.{begun-for, found-absent, found-all, found-built, found-not_begun}
-use Rattle.segment_manager.proofs.objects.NewKeys.{key-seeks, key-short, key-sort}
-use Rattle.segment_manager.proofs.objects.KeyCalls.{place-below, found-answers, segment-index}
-use Rattle.segment_manager.proofs.{Common.pair_of_kind, Common.SegmentState, objects.FilledCalls.no-object}
-use Rattle.segment_manager.proofs.{objects.Here.has-object, indexes.HeldIndexes.denotes-sorted_index}
 use Rattle.seg_types.specs.Commands as asked
+use Rattle.segment_manager.proofs.Common.{Ok, SegmentState, Write, bare, exit-is, found_object_answer, kind_of}
+use Rattle.segment_manager.proofs.Common.{pair_of_kind, subst, sym, with_count}
+use Rattle.segment_manager.proofs.Common.{◌≡◌, Constructs, Err, FindsOrConstructs, IsNewKeyOf, IsObjectInBlock, Object}
+use Rattle.segment_manager.proofs.indexes.HeldIndexes.{denotes-sorted_index}
+use Rattle.segment_manager.proofs.objects.FilledCalls.{begun-for, found-absent, found-all, found-built, found-not_begun}
+use Rattle.segment_manager.proofs.objects.KeyCalls.{found-answers, place-below, segment-index}
+use Rattle.segment_manager.proofs.objects.{FilledCalls.no-object, Here.has-object, NewKeys.key-seeks, NewKeys.key-short}
 use Rattle.segment_manager.proofs.objects.finding_or_constructing.find_or_construct_entered.Goals as goal
 
-pub lookup-requires : goal.lookup-requires
-lookup-requires g c = record {
-  index = denotes-sorted_index c.args.index c.requires.segment.1.denotes;
-  key = key-sort c.args.index c.args.entry c.requires.key.0 c.args.name.now
-      (kind_of (bare (g.F.ObjectInit.content c.args.filling.now))) c.requires.key.1;
-}
+pub lookup-requires-clause-index : goal.lookup-requires-clause-index
+lookup-requires-clause-index g c = denotes-sorted_index c.args.index c.requires.segment.1.denotes
 
 pub at-requires-clause-index : goal.at-requires-clause-index
 at-requires-clause-index g c = segment-index c.args.index c.requires.segment

@@ -1,20 +1,16 @@
 -- An object is found under the entry, or made of items with one, or a block is refused.
-use Rattle.segment_manager.proofs.Common.{exit-is, sym, subst, ◌≡◌, Err, Write, Scalar, ScalarKind, SegmentState}
-use Rattle.segment_manager.proofs.Common.{Object, IsObjectInBlock, pair_of_kind}
+use Rattle.segment_manager.proofs.Common.{exit-is, pair_of_kind, subst, sym}
+use Rattle.segment_manager.proofs.Common.{◌≡◌, Err, IsObjectInBlock, Object, Scalar, ScalarKind, SegmentState, Write}
+use Rattle.segment_manager.proofs.indexes.HeldIndexes.{denotes-sorted_index}
 use Rattle.segment_manager.proofs.objects.ItemCalls.{begun-numbers, found-items, made-items_or_none, no-objects}
-use Rattle.segment_manager.proofs.objects.NewKeys.{key-seeks, key-short, key-sort}
-use Rattle.segment_manager.proofs.objects.KeyCalls.{place-below, found-answers, segment-index}
-use Rattle.segment_manager.proofs.{objects.Here.has-object, indexes.HeldIndexes.denotes-sorted_index}
-use Rattle.segment_manager.proofs.{objects.ItemCalls.none-items, objects.ItemCalls.shaped-key}
-use Rattle.segment_manager.proofs.{objects.Filling.always-holds}
+use Rattle.segment_manager.proofs.objects.KeyCalls.{found-answers, place-below, segment-index}
+use Rattle.segment_manager.proofs.objects.{Filling.always-holds, ItemCalls.none-items, ItemCalls.shaped-key}
+use Rattle.segment_manager.proofs.objects.{Here.has-object, NewKeys.key-seeks, NewKeys.key-short}
 use Rattle.segment_manager.specs.objects.Items.{FindsOrTakesIn, TakesItemsIn}
 use Rattle.segment_manager.proofs.objects.finding_or_taking.find_or_take.Goals as goal
 
-pub lookup-requires : goal.lookup-requires
-lookup-requires g c = record {
-  index = denotes-sorted_index c.args.index c.requires.segment.1.denotes;
-  key = key-sort c.args.index c.args.entry c.requires.key.0 c.args.name.now (Scalar g.T.Scalar.kind) c.requires.key.1;
-}
+pub lookup-requires-clause-index : goal.lookup-requires-clause-index
+lookup-requires-clause-index g c = denotes-sorted_index c.args.index c.requires.segment.1.denotes
 
 pub at-requires-clause-index : goal.at-requires-clause-index
 at-requires-clause-index g c = segment-index c.args.index c.requires.segment
@@ -55,23 +51,6 @@ returns-in_err-begun g c = rw (exit-is c.from_residual.result _ c.from_residual.
     (no-objects c.args.index c.args.entry c.in-Absent.place key c.args.name.now (Scalar k)
     n away) (none-items _ g.I.Iterator.next_gives g.T.Scalar.whole key k c.args.count c.args.items.now
     c.numbers.ensures c.kind-kind.ensures c.requires.non_empty (c.in_err-begun.ensures key c.args.entry shaped away)))
-
-pub take_items-requires-clause-start : goal.take_items-requires-clause-start
-take_items-requires-clause-start g c =
-    let key = c.requires.key in
-    let shaped = shaped-key c.args.index c.args.entry key.0 c.args.name.now c.numbers.ensures c.kind-kind.ensures
-    key.1 in (
-      c.args.heap.now,
-      (
-        c.requires.segment,
-        (
-          key.0,
-          begun-numbers c.args.heap.now c.begin_at.new.heap key.0 c.in_ok-begun.begun.handle c.in_ok-begun.begun.at
-              c.in_ok-begun.begun.entry c.numbers.ensures
-              (c.in_ok-begun.ensures key.0 c.args.entry shaped c.in-Absent.ensures.place),
-        ),
-      ),
-    )
 
 pub returns : goal.returns
 returns g c = λ key n.

@@ -1,13 +1,10 @@
 -- An object has the key, or one is begun.
-use Rattle.segment_manager.proofs.{indexes.HeldIndexes.denotes-sorted_index, objects.KeyCalls.segment-index}
-use Rattle.segment_manager.proofs.{objects.NewKeys.key-short, objects.NewKeys.key-sort}
+use Rattle.segment_manager.proofs.indexes.HeldIndexes.{denotes-sorted_index}
+use Rattle.segment_manager.proofs.objects.{KeyCalls.segment-index, NewKeys.key-short}
 use Rattle.segment_manager.proofs.objects.pending_object.begin_entered.Goals as goal
 
-pub lookup-requires : goal.lookup-requires
-lookup-requires c = record {
-  index = denotes-sorted_index c.args.index c.requires.segment.1.denotes;
-  key = key-sort c.args.index c.args.entry c.requires.key.0 c.args.name.now c.args.shape.kind c.requires.key.1;
-}
+pub lookup-requires-clause-index : goal.lookup-requires-clause-index
+lookup-requires-clause-index c = denotes-sorted_index c.args.index c.requires.segment.1.denotes
 
 pub begin_at-requires-clause-index : goal.begin_at-requires-clause-index
 begin_at-requires-clause-index c = segment-index c.args.index c.requires.segment

@@ -1,21 +1,27 @@
 -- The key determines which index has the entry. The entry is removed with its object, or there is none.
-use Rattle.segment_manager.proofs.segment.Segment.destroy.Goals as goal
-use Rattle.segment_manager.proofs.{objects.KeyFrames.keeps-found, Common.refl, Common.sym, Common.◌∙◌}
-use Rattle.segment_manager.proofs.{directory.CommandSteps.refuses-read_only}
-use Rattle.segment_manager.proofs.{indexes.Bridge.seeks-sort, indexes.HeldIndexes.denotes-sorted_index}
-use Rattle.segment_manager.proofs.objects.Destroys.{destroys-entered, destroys-none, found-entry}
 use Rattle.seg_types.specs.{Commands.Destroy, Keys.index_key_seen}
+use Rattle.segment_manager.proofs.Common.{UnchangedWhere, entries_of, none-some, refl, subst, sym, table_of, ℕ}
+use Rattle.segment_manager.proofs.Common.{◌∙◌, ◌≡◌, Entry, Found, Index, Key, LacksKey, Seeks, SegmentState}
+use Rattle.segment_manager.proofs.indexes.HeldIndexes.{denotes-index, denotes-sorted_index}
+use Rattle.segment_manager.proofs.objects.Destroys.{Ends, destroys-entered, destroys-none, found-entry}
+use Rattle.segment_manager.proofs.{directory.CommandSteps.refuses-read_only, indexes.Bridge.lookup-found}
+use Rattle.segment_manager.proofs.segment.Segment.destroy.Goals as goal
+
+-- a look-up that found an entry: an object has the key
+keeps-found : {s t : SegmentState} (view : s ≡ t) {new : SegmentState} (i : Index) (e : Entry) (at : ℕ)
+    → Ends s.cut i e (Found at) → (key : Key) → Seeks i e key → UnchangedWhere t new (LacksKey key)
+keeps-found {s} view {new} i e at p key q =
+    subst (λ (u : SegmentState). UnchangedWhere u new (LacksKey key)) view (λ d k lacks.
+    let there =
+    lookup-found i s.cut e key k.denotes q at (p (table_of i d) (entries_of i d) (denotes-index i s.cut k.denotes)) in
+    absurd (none-some there.object (sym lacks ∙ there.is)))
 
 pub returns-then-is_read_only-clause-step : goal.returns-then-is_read_only-clause-step
 returns-then-is_read_only-clause-step c = refuses-read_only c.args.self.now (Destroy (index_key_seen c.args.key.now))
     (sym c.is_read_only.ensures ∙ c.if-is_read_only.true) refl
 
-pub lookup-requires : goal.lookup-requires
-lookup-requires c = record {
-  index = denotes-sorted_index c.entry_of-index.result.0 c.self.invariant.1.denotes;
-  key = seeks-sort c.entry_of-index.result.0 c.entry_of-index.result.1 (index_key_seen c.args.key.now)
-      c.entry_of-index.ensures.search;
-}
+pub lookup-requires-clause-index : goal.lookup-requires-clause-index
+lookup-requires-clause-index c = denotes-sorted_index c.entry_of-index.result.0 c.self.invariant.1.denotes
 
 pub remove_entered-requires : goal.remove_entered-requires
 remove_entered-requires c =

@@ -1,9 +1,8 @@
 -- The call on the heap, under the key that the object gets, as one on the segment.
-use Rattle.segment_manager.proofs.Common.{sym, ap, subst, ◌∙◌, Key, IsOfKind, Scalar, index_key_seen}
-use Rattle.segment_manager.proofs.objects.ItemCalls.{found-segment, seen-found_items}
+use Rattle.segment_manager.proofs.Common.{◌∙◌, IsOfKind, Key, Scalar, ap, index_key_seen, subst}
+use Rattle.segment_manager.proofs.objects.ItemCalls.{found-segment}
+use Rattle.segment_manager.proofs.segment.Segment.find_or_construct_it.{Given.Over, Goals.After-find_or_take}
 use Rattle.segment_manager.specs.objects.Items.{FindsOrTakesIn}
-use Rattle.segment_manager.proofs.segment.Segment.find_or_construct_it.Goals.{After-find_or_take}
-use Rattle.segment_manager.proofs.segment.Segment.find_or_construct_it.Given.{Over}
 use Rattle.segment_manager.proofs.segment.Segment.find_or_construct_it.Goals as goal
 
 -- the effect of the call, under the key of the object's kind
@@ -17,17 +16,6 @@ done g c = subst (λ (key : Key). FindsOrTakesIn g.I.Iterator.next_gives g.T.Sca
     (subst (λ k. IsOfKind (index_key_seen c.entry_for-key.result) (Scalar k)) c.kind.ensures
     c.entry_for-key.ensures.kind)))
 
-pub find_or_take-requires-clause-key : goal.find_or_take-requires-clause-key
-find_or_take-requires-clause-key g c = (
-  index_key_seen c.entry_for-key.result,
-  c.entry_of-index.ensures.new _ (subst (λ k. IsOfKind (index_key_seen c.entry_for-key.result) (Scalar k))
-      c.kind.ensures c.entry_for-key.ensures.kind),
-)
-
 pub invariant_of-self : goal.invariant_of-self
 invariant_of-self g c =
     found-segment c.self.invariant (done g (goal.at.invariant_of-self g c).After-find_or_take)
-
-pub returns-clause-items : goal.returns-clause-items
-returns-clause-items g c = λ is. seen-found_items c.self.view_is (sym c.is_read_only.ensures ∙ c.if-is_read_only.false)
-    (done g (goal.at.returns-clause-items g c).After-find_or_take)

@@ -3,8 +3,8 @@ use Rattle.segment_manager.proofs.Common.{sym, subst, Some, HasEntries, IsListed
 use Rattle.segment_manager.proofs.{indexes.HeldIndexes.denotes-sorted_index, objects.OwnEntries.listed-found}
 use Rattle.segment_manager.proofs.segment.Segment.listed_under.Goals as goal
 
-pub lookup-requires : goal.lookup-requires
-lookup-requires c = record { index = denotes-sorted_index c.args.index c.self.invariant.1.denotes; key = c.requires }
+pub lookup-requires-clause-index : goal.lookup-requires-clause-index
+lookup-requires-clause-index c = denotes-sorted_index c.args.index c.self.invariant.1.denotes
 
 pub returns-in-Found : goal.returns-in-Found
 returns-in-Found c = λ h each. subst

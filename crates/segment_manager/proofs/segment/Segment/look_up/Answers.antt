@@ -4,8 +4,8 @@ use Rattle.segment_manager.proofs.indexes.HeldIndexes.{denotes-sorted_index}
 use Rattle.segment_manager.proofs.objects.KeyCalls.{absent-answers, found-answers, place-below, segment-index}
 use Rattle.segment_manager.proofs.segment.Segment.look_up.Goals as goal
 
-pub lookup-requires : goal.lookup-requires
-lookup-requires c = record { index = denotes-sorted_index c.args.index c.self.invariant.1.denotes; key = c.requires }
+pub lookup-requires-clause-index : goal.lookup-requires-clause-index
+lookup-requires-clause-index c = denotes-sorted_index c.args.index c.self.invariant.1.denotes
 
 pub at-requires-clause-index : goal.at-requires-clause-index
 at-requires-clause-index c = segment-index c.args.index c.self.invariant

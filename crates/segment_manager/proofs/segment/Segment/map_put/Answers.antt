@@ -1,21 +1,12 @@
 -- The pair is put into the map that is found. The segment ends as the bound map leaves it.
-use Rattle.segment_manager.proofs.Common.{◌≡◌, refl, rules, subst, sym, Map, Put, SegmentState}
-use Rattle.segment_manager.proofs.Common.{OnErr, literal_of}
+use Rattle.segment_manager.proofs.Common.{◌≡◌, Map, Put, SegmentState, literal_of, refl, rules, subst}
 use Rattle.segment_manager.proofs.bound.ByKey.{not-bound, overwrites, steps}
-use Rattle.segment_manager.proofs.segment.Segment.map_put.Goals as goal
 use Rattle.segment_manager.specs.Keeping.{ChangesValue}
+use Rattle.segment_manager.proofs.segment.Segment.map_put.Goals as goal
 
 pub returns-in_err-self-clause-step : goal.returns-in_err-self-clause-step
-returns-in_err-self-clause-step g c = not-bound _ (Put (g.O.ObjectRef.key c.args.key.now)
-    (literal_of g.K.Scalar.kind (g.K.Scalar.whole c.args.at)) (literal_of g.V.Scalar.kind
-    (g.V.Scalar.whole c.args.value))) _ refl c.from_residual.ensures.1 c.in_err-self.ensures.location c.in_err-self.was
-    c.of.follows.holds-at-none
-
-pub returns-in_err-self-clause-overwrite : goal.returns-in_err-self-clause-overwrite
-returns-in_err-self-clause-overwrite g c = subst (λ (u : SegmentState). ChangesValue c.args.self.now u
-    (g.O.ObjectRef.key c.args.key.now) g.K.Scalar.kind (g.K.Scalar.whole c.args.at) g.V.Scalar.kind)
-    (sym (subst (λ r. OnErr r (c.of.follows.lender-at-none ≡ c.args.self.now)) c.in_err-self.was
-    c.of.follows.holds-at-none)) (λ d l p has. record { at = λ j f. refl })
+returns-in_err-self-clause-step g c = not-bound _ _ _ refl c.from_residual.ensures.1 c.in_err-self.ensures.location
+    c.in_err-self.was c.of.follows.holds-at-none
 
 pub returns-clause-step : goal.returns-clause-step
 returns-clause-step g c = let e : c.insert.new.self.segment.now ≡ c.self-2-1.given.0 = search rules in

@@ -4,9 +4,8 @@ use Rattle.segment_manager.proofs.{bound.ByKey.not-bound, bound.ByKey.steps}
 use Rattle.segment_manager.proofs.segment.Segment.set.Goals as goal
 
 pub returns-in_err-self-clause-step : goal.returns-in_err-self-clause-step
-returns-in_err-self-clause-step g c = not-bound _ (Set (g.O.ObjectRef.key c.args.key.now) c.args.index
-    (literal_of g.T.Scalar.kind (g.T.Scalar.whole c.args.value))) _ refl
-    c.from_residual.ensures.1 c.in_err-self.ensures.location c.in_err-self.was c.of.follows.holds-at-none
+returns-in_err-self-clause-step g c = not-bound _ _ _ refl c.from_residual.ensures.1 c.in_err-self.ensures.location
+    c.in_err-self.was c.of.follows.holds-at-none
 
 pub returns-clause-step : goal.returns-clause-step
 returns-clause-step g c = let e : c.set.new.self.segment.now ≡ c.self-2-1.given.0 = search rules in

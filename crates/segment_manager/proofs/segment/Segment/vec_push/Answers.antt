@@ -1,13 +1,11 @@
 -- A value is appended to the vector that is found. The segment ends as the bound object leaves it.
-use Rattle.segment_manager.proofs.Common.{◌≡◌, refl, rules, Vector, Push, literal_of}
-use Rattle.segment_manager.proofs.{bound.ByKey.not-bound, bound.ByKey.steps}
-use Rattle.segment_manager.proofs.bound.{ByKey.rests, SliceCalls.same-gaps}
+use Rattle.segment_manager.proofs.Common.{◌≡◌, Push, Vector, literal_of, refl, rules}
+use Rattle.segment_manager.proofs.bound.{ByKey.not-bound, ByKey.rests, ByKey.steps, SliceCalls.same-gaps}
 use Rattle.segment_manager.proofs.segment.Segment.vec_push.Goals as goal
 
 pub returns-in_err-self-clause-step : goal.returns-in_err-self-clause-step
-returns-in_err-self-clause-step g c = not-bound _ (Push (g.O.ObjectRef.key c.args.key.now) (literal_of g.T.Scalar.kind
-    (g.T.Scalar.whole c.args.value))) _ refl
-    c.from_residual.ensures.1 c.in_err-self.ensures.location c.in_err-self.was c.of.follows.holds-at-none
+returns-in_err-self-clause-step g c = not-bound _ _ _ refl c.from_residual.ensures.1 c.in_err-self.ensures.location
+    c.in_err-self.was c.of.follows.holds-at-none
 
 pub returns-clause-step : goal.returns-clause-step
 returns-clause-step g c = let e : c.push.new.self.segment.now ≡ c.self-2-1.given.0 = search rules in

@@ -1,32 +1,12 @@
 -- The object's kind decides which call it is, and a write for its handle is a write for the key.
-use Rattle.segment_manager.proofs.segment.Segment.write_range.Goals as goal
-use Rattle.segment_manager.proofs.Common.{exit-is, ◌≡◌, rules, sym, ◌∙◌, ℕ, ℤ, List, map, Answer, Key, ByHandle}
-use Rattle.segment_manager.proofs.Common.{IsLocated, Located, ScalarKind, SegmentState, Refused, WrongKind, Vector}
-use Rattle.segment_manager.proofs.Common.{Scalar, ap, false, is_read_only}
-use Rattle.segment_manager.proofs.containers.RangeCalls.{other-kind, range-by_key, range-reading, range-stays}
-use Rattle.segment_manager.proofs.{bound.ByKey.of-change, objects.Locating.located-here}
-use Rattle.segment_manager.proofs.containers.RangeCalls.{why-missing}
-use Rattle.segment_manager.specs.containers.Ranges.{WritesRange}
 use Rattle.best_fit.proofs.Laws.{gaps-refl}
-
-pub returns-then-is_read_only-clause-step : goal.returns-then-is_read_only-clause-step
-returns-then-is_read_only-clause-step g c =
-    range-stays c.args.self.now (g.O.ObjectRef.key c.args.key.now) g.T.Scalar.kind
-    c.args.first (map g.T.Scalar.whole c.args.values.now) _ (λ d st. range-reading c.args.self.now.mode d
-    (g.O.ObjectRef.key c.args.key.now) g.T.Scalar.kind c.args.first (map g.T.Scalar.whole c.args.values.now)
-    (sym c.is_read_only.ensures ∙ c.if-is_read_only.true))
-
-pub returns-in_err-object-clause-step : goal.returns-in_err-object-clause-step
-returns-in_err-object-clause-step g c = rw (exit-is c.from_residual.result _ c.from_residual.ensures.1)
-    (why-missing c.args.self.now (g.O.ObjectRef.key c.args.key.now) g.T.Scalar.kind c.args.first
-    (map g.T.Scalar.whole c.args.values.now) (sym c.is_read_only.ensures ∙ c.if-is_read_only.false)
-    c.in_err-object.ensures)
-
-pub returns-then-is_read_only-clause-gaps : goal.returns-then-is_read_only-clause-gaps
-returns-then-is_read_only-clause-gaps g c = gaps-refl _
-
-pub returns-in_err-object-clause-gaps : goal.returns-in_err-object-clause-gaps
-returns-in_err-object-clause-gaps g c = gaps-refl _
+use Rattle.segment_manager.proofs.Common.{ScalarKind, SegmentState, Vector, WrongKind, ap, exit-is, false, is_read_only}
+use Rattle.segment_manager.proofs.Common.{◌∙◌, ◌≡◌, Answer, ByHandle, IsLocated, Key, List, Located, Refused, Scalar}
+use Rattle.segment_manager.proofs.containers.RangeCalls.{other-kind, range-by_key}
+use Rattle.segment_manager.proofs.objects.Locating.{located-here}
+use Rattle.segment_manager.proofs.{Common.map, Common.rules, Common.sym, Common.ℕ, Common.ℤ, bound.ByKey.of-change}
+use Rattle.segment_manager.specs.containers.Ranges.{WritesRange}
+use Rattle.segment_manager.proofs.segment.Segment.write_range.Goals as goal
 
 -- the write to the bound object, under the key
 of-key : {s t new last : SegmentState} {key : Key} {o p q : Located} → IsLocated s key o → q ≡ o → p ≡ q → t ≡ s

@@ -1,16 +1,7 @@
 -- The map counts its pairs.
-use Rattle.segment_manager.proofs.Common.{◌∙◌}
-use Rattle.segment_manager.proofs.bound.Places.{container-bound}
-use Rattle.segment_manager.proofs.containers.{MapAnswers.counted-there, MapAnswers.some-there, ScalarTypes.of-map}
-use Rattle.segment_manager.specs.objects.BoundObjects.{key_of}
+use Rattle.segment_manager.proofs.containers.{MapAnswers.counted-there, MapAnswers.in-heap, ScalarTypes.of-map}
 use Rattle.segment_manager.proofs.bound.maps.Bound+Pairs+K+V.len.Goals as goal
 
-pub len-requires : goal.len-requires
-len-requires g c = some-there (of-map g.met.K.Scalar) (of-map g.met.V.Scalar) c.segment.view_is (key_of
-    c.args.self.now.object)
-    (c.at.ensures ∙ c.own_container.ensures) c.segment.invariant (container-bound c.args.self.now.live)
-
 pub returns : goal.returns
-returns g c = counted-there (of-map g.met.K.Scalar) (of-map g.met.V.Scalar) c.segment.view_is (key_of
-    c.args.self.now.object)
-    (c.at.ensures ∙ c.own_container.ensures) c.segment.invariant (container-bound c.args.self.now.live) _ c.len.ensures
+returns g c = counted-there (of-map g.met.K.Scalar) (of-map g.met.V.Scalar) (in-heap c.map.ensures.heap)
+    c.args.self.now.live c.map.ensures.place c.map.ensures.denotation _ c.len.ensures

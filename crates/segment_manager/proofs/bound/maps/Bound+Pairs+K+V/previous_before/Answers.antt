@@ -1,17 +1,9 @@
 -- The pair is searched for in the map.
-use Rattle.segment_manager.proofs.Common.{◌∙◌, false}
-use Rattle.segment_manager.proofs.bound.Places.{container-bound}
-use Rattle.segment_manager.proofs.containers.{MapAnswers.back-there, MapAnswers.some-there, ScalarTypes.of-map}
-use Rattle.segment_manager.specs.objects.BoundObjects.{key_of}
+use Rattle.segment_manager.proofs.Common.{false}
+use Rattle.segment_manager.proofs.containers.{MapAnswers.back-there, MapAnswers.in-heap, ScalarTypes.of-map}
 use Rattle.segment_manager.proofs.bound.maps.Bound+Pairs+K+V.previous_before.Goals as goal
 
-pub previous_before-requires : goal.previous_before-requires
-previous_before-requires g c = some-there (of-map g.met.K.Scalar) (of-map g.met.V.Scalar) c.segment.view_is (key_of
-    c.args.self.now.object)
-    (c.at.ensures ∙ c.own_container.ensures) c.segment.invariant (container-bound c.args.self.now.live)
-
 pub returns : goal.returns
-returns g c = back-there (of-map g.met.K.Scalar) (of-map g.met.V.Scalar) c.segment.view_is (key_of
-    c.args.self.now.object)
-    (c.at.ensures ∙ c.own_container.ensures) c.segment.invariant (container-bound c.args.self.now.live) false _ _
+returns g c = back-there (of-map g.met.K.Scalar) (of-map g.met.V.Scalar) (in-heap c.map.ensures.heap)
+    c.args.self.now.live c.map.ensures.place c.map.ensures.denotation false _ _
     c.previous_before.ensures.item

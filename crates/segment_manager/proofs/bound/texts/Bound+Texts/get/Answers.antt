@@ -1,9 +1,8 @@
 -- The text is an element of the vector of strings.
-use Rattle.segment_manager.proofs.Common.{StringsKind, Get}
-use Rattle.segment_manager.proofs.bound.Places.{container-here, texts-here}
 use Rattle.segment_manager.proofs.containers.{Safely.of-error, StorageSteps.seen-reply, TextListCalls.text-got}
-use Rattle.segment_manager.proofs.bound.texts.Bound+Texts.get.Goals as goal
+use Rattle.segment_manager.proofs.{Common.Get, Common.StringsKind, bound.Places.container-here, bound.Places.texts-here}
 use Rattle.segment_manager.specs.objects.BoundObjects.{key_of}
+use Rattle.segment_manager.proofs.bound.texts.Bound+Texts.get.Goals as goal
 
 pub get-requires : goal.get-requires
 get-requires c = texts-here c.segment.view_is c.segment.invariant c.own_container-place.ensures c.args.self.now.live

@@ -1,8 +1,7 @@
 -- The bytes are appended to the string.
 use Rattle.segment_manager.proofs.Common.{refl}
 use Rattle.segment_manager.proofs.bound.Places.{still-bound, text-here, to-change}
-use Rattle.segment_manager.proofs.containers.TextAnswers.{append-gaps, text-appended}
-use Rattle.segment_manager.proofs.containers.Safely.{of-error}
+use Rattle.segment_manager.proofs.containers.{Safely.of-error, TextAnswers.append-gaps, TextAnswers.text-appended}
 use Rattle.segment_manager.proofs.bound.texts.BoundMut+StringBytes.append.Goals as goal
 
 pub append-requires : goal.append-requires

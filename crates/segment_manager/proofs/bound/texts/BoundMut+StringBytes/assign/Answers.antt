@@ -1,8 +1,7 @@
 -- The bytes replace the bytes of the string.
 use Rattle.segment_manager.proofs.Common.{refl}
 use Rattle.segment_manager.proofs.bound.Places.{still-bound, text-here, to-change}
-use Rattle.segment_manager.proofs.containers.TextAnswers.{assign_text-gaps, text-assigned}
-use Rattle.segment_manager.proofs.containers.Safely.{of-error}
+use Rattle.segment_manager.proofs.containers.{Safely.of-error, TextAnswers.assign_text-gaps, TextAnswers.text-assigned}
 use Rattle.segment_manager.proofs.bound.texts.BoundMut+StringBytes.assign.Goals as goal
 
 pub assign-requires : goal.assign-requires

@@ -1,8 +1,7 @@
 -- The text is appended to the vector of strings.
 use Rattle.segment_manager.proofs.Common.{refl}
 use Rattle.segment_manager.proofs.bound.Places.{still-bound, texts-here, to-change}
-use Rattle.segment_manager.proofs.containers.TextListCalls.{text-first, text-pushed}
-use Rattle.segment_manager.proofs.containers.Safely.{of-error}
+use Rattle.segment_manager.proofs.containers.{Safely.of-error, TextListCalls.text-first, TextListCalls.text-pushed}
 use Rattle.segment_manager.proofs.bound.texts.BoundMut+Texts.push.Goals as goal
 
 pub push-requires : goal.push-requires

@@ -1,6 +1,6 @@
 //! Commits: each lasts when it returns, and costs what was changed. Boost has no counterpart.
 use anyhow::Result;
-use zaluxhoni::{Disk, Mode, Name, SegmentFile, named, read};
+use zaluxhoni::{ArrayMut, Disk, Mode, Name, SegmentFile, named, read};
 
 /// Counts a sale, and commits it.
 fn sell<D: Disk>(
@@ -9,8 +9,9 @@ fn sell<D: Disk>(
     till: &mut SegmentFile<D::Hold>,
     sales: &Name,
 ) -> Result<()> {
-    let count: i64 = till.segment.get(sales, 0)?;
-    till.segment.set(sales, 0, count.wrapping_add(1))?;
+    let mut count = ArrayMut::<i64>::of(&mut till.segment, sales)?;
+    let sold = count.read().get(0)?;
+    count.set(0, sold.wrapping_add(1))?;
     till.commit(rt.alloc(), disk)?;
     Ok(())
 }

@@ -1,6 +1,6 @@
 //! Growing when space runs out. Boost: `managed_mapped_file::grow`, with the file closed.
 use anyhow::Result;
-use zaluxhoni::{Disk, FileError, Name, Refusal, SegmentFile, named};
+use zaluxhoni::{Disk, Name, Refusal, SegmentFile, named};
 
 /// Asks a segment for a hundred numbers, and makes it longer when they find no space.
 fn keep_numbers<H: Drop>(
@@ -15,23 +15,14 @@ fn keep_numbers<H: Drop>(
     Ok(())
 }
 
-/// Gives up what is free at the end of a segment, and saves it to another file.
-fn keep_it_short<D: Disk>(disk: &mut D, file: &mut SegmentFile<D::Hold>) -> Result<u64, FileError> {
-    file.shrink()?;
-    file.save_as(disk, "grown.seg")?;
-    Ok(file.segment.size())
-}
-
-/// Keeps a hundred numbers in a segment, which becomes as long as they are.
-fn grow<D: Disk>(rt: &HostRuntime, disk: &mut D, file: &mut SegmentFile<D::Hold>) -> Result<()> {
-    keep_numbers(rt, file, &named("numbers")?)?;
-    let size = keep_it_short(disk, file)?;
-    println!(rt; "growing: {size} bytes hold a hundred numbers")?;
-    Ok(())
-}
-
-/// Makes a segment of 208 bytes, and lets it grow.
+/// Makes a segment of 208 bytes, and keeps a hundred numbers in it. Gives up what is free at its end, and saves it to
+/// another file.
 pub fn grow_when_full(rt: &HostRuntime, disk: &mut impl Disk) -> Result<()> {
     let mut file = SegmentFile::create(rt.alloc(), disk, "small.seg", 208)?;
-    grow(rt, disk, &mut file)
+    keep_numbers(rt, &mut file, &named("numbers")?)?;
+    file.shrink()?;
+    file.save_as(disk, "grown.seg")?;
+    let size = file.segment.size();
+    println!(rt; "growing: {size} bytes hold a hundred numbers")?;
+    Ok(())
 }

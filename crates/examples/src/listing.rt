@@ -46,24 +46,14 @@ fn tell_of_all(rt: &HostRuntime, segment: &Segment) -> Result<()> {
     Ok(())
 }
 
-/// Prints the object with this handle.
-fn tell_of_one(rt: &HostRuntime, segment: &Segment, handle: u64) -> Result<()> {
-    let len = segment.instance_length(&Key::Handle(handle))?;
-    println!(rt; "a list: #{handle} has {len} elements")?;
-    Ok(())
-}
-
-/// Fills a segment, and prints its contents.
-fn tell(rt: &HostRuntime, segment: &mut Segment) -> Result<()> {
-    let handle = fill(segment, &named("width")?)?;
-    tell_the_first(rt, segment)?;
-    tell_the_names(rt, segment)?;
-    tell_of_all(rt, segment)?;
-    tell_of_one(rt, segment, handle)
-}
-
 /// Creates and fills a segment in a file, and prints its contents.
 pub fn list_a_segment(rt: &HostRuntime, disk: &mut impl Disk) -> Result<()> {
     let mut file = SegmentFile::create(rt.alloc(), disk, "listed.seg", 1024)?;
-    tell(rt, &mut file.segment)
+    let handle = fill(&mut file.segment, &named("width")?)?;
+    tell_the_first(rt, &file.segment)?;
+    tell_the_names(rt, &file.segment)?;
+    tell_of_all(rt, &file.segment)?;
+    let len = file.segment.instance_length(&Key::Handle(handle))?;
+    println!(rt; "a list: #{handle} has {len} elements")?;
+    Ok(())
 }

@@ -1,8 +1,8 @@
 //! Objects that are looked up once: their calls need no name. Boost: the pointer that `find` and `construct` return.
 use anyhow::Result;
 use zaluxhoni::{
-    ArrayMut, Disk, Map, MapMut, MapRanges, Name, Refusal, Segment, SegmentFile, SliceReads,
-    StringMut, StringsMut, TextSequence, VectorMut, named,
+    ArrayMut, Disk, MapMut, MapRanges, Name, Refusal, Segment, SegmentFile, SliceReads, StringMut,
+    StringsMut, TextSequence, VectorMut, named,
 };
 
 /// Puts numbers into a queue, and takes some out.
@@ -15,16 +15,19 @@ fn fill(queue: &mut VectorMut<'_, i64>) -> Result<(), Refusal> {
     queue.extend(&[8])
 }
 
-/// Makes a queue of numbers. Returns their sum, how many they are, and the last one, which `pop` takes out.
-fn take_of_a_queue(segment: &mut Segment, name: &Name) -> Result<(i64, u64, i64), Refusal> {
-    segment.construct_vec::<i64, _>(name, &[])?;
-    let mut queue = VectorMut::<i64>::of(segment, name)?;
+/// Shows a view of a vector of numbers: their sum, how many they are, and the last one, which `pop` takes out.
+fn view_a_queue(rt: &HostRuntime, segment: &mut Segment) -> Result<()> {
+    let name = named("queue")?;
+    segment.construct_vec::<i64, _>(&name, &[])?;
+    let mut queue = VectorMut::<i64>::of(segment, &name)?;
     fill(&mut queue)?;
-    let mut sum = 0i64;
-    for number in queue.read().iter() {
-        sum = sum.saturating_add(number);
-    }
-    Ok((sum, queue.read().len(), queue.pop()?))
+    let sum = queue
+        .read()
+        .iter()
+        .fold(0i64, |sum, number| sum.saturating_add(number));
+    let (len, last) = (queue.read().len(), queue.pop()?);
+    println!(rt; "views: a queue of {len} with the sum {sum}, the last is {last}")?;
+    Ok(())
 }
 
 /// Makes an array of two bytes, changes it, and returns the greater byte.
@@ -48,28 +51,19 @@ fn record_years(years: &mut MapMut<'_, i32, i64>) -> Result<(), Refusal> {
     Ok(())
 }
 
-/// Adds up the years of the numbers from 2 to 9.
-fn add_up_years(years: &Map<'_, i32, i64>) -> i64 {
-    let mut sum = 0i64;
-    for (_number, year) in years.range(2..=9) {
-        sum = sum.saturating_add(year);
-    }
-    sum
-}
-
-/// Makes a map of years. Returns its first pair, the next pair after the number 3, and the sum of the years.
-fn look_into_a_map(segment: &mut Segment, name: &Name) -> Result<([Option<(i32, i64)>; 2], i64)> {
-    segment.construct_map::<i32, i64, _>(name)?;
-    record_years(&mut MapMut::of(segment, name)?)?;
-    let years = Map::of(segment, name)?;
-    Ok((
-        [years.iter().next(), years.next_after(3)],
-        add_up_years(&years),
-    ))
-}
-
-/// Prints the last two pairs of the map, the last one first.
-fn tell_the_last(rt: &HostRuntime, years: &Map<'_, i32, i64>) -> Result<()> {
+/// Shows a view of an array, and one of a map, by rising and then by falling keys.
+fn view_a_map(rt: &HostRuntime, segment: &mut Segment) -> Result<()> {
+    let flag = change_an_array(segment, &named("flags")?)?;
+    let name = named("years")?;
+    segment.construct_map::<i32, i64, _>(&name)?;
+    let mut years = MapMut::of(segment, &name)?;
+    record_years(&mut years)?;
+    let years = years.read();
+    let ends = [years.iter().next(), years.next_after(3)];
+    let sum = years
+        .range(2..=9)
+        .fold(0i64, |sum, (_number, year)| sum.saturating_add(year));
+    println!(rt; "views: a flag {flag}, in the map {ends:?}, and {sum} in all")?;
     for (number, year) in years.range(..=9).rev().take(2) {
         println!(rt; "views: going back, number {number} is of {year}")?;
     }
@@ -95,28 +89,11 @@ fn shorten_a_list(segment: &mut Segment, name: &Name) -> Result<usize, Refusal> 
     lines.pop()?;
     lines.erase(0)?;
     lines.set(0, b"only")?;
-    let left = lines.read();
-    let mut bytes = 0usize;
-    for line in left.iter() {
-        bytes = bytes.saturating_add(line.len());
-    }
+    let bytes = lines
+        .read()
+        .iter()
+        .fold(0usize, |bytes, line| bytes.saturating_add(line.len()));
     Ok(bytes)
-}
-
-/// Shows a view of a vector of numbers.
-fn view_a_queue(rt: &HostRuntime, segment: &mut Segment) -> Result<()> {
-    let (sum, len, last) = take_of_a_queue(segment, &named("queue")?)?;
-    println!(rt; "views: a queue of {len} with the sum {sum}, the last is {last}")?;
-    Ok(())
-}
-
-/// Shows a view of an array, and one of a map, by rising and then by falling keys.
-fn view_a_map(rt: &HostRuntime, segment: &mut Segment) -> Result<()> {
-    let (flags, years) = (named("flags")?, named("years")?);
-    let flag = change_an_array(segment, &flags)?;
-    let (ends, sum) = look_into_a_map(segment, &years)?;
-    println!(rt; "views: a flag {flag}, in the map {ends:?}, and {sum} in all")?;
-    tell_the_last(rt, &Map::of(segment, &years)?)
 }
 
 /// Shows a view of a string, and one of a vector of strings.

@@ -2,7 +2,6 @@
 use Rattle.std.proofs.Common.{◌≡◌, ℕ, zero, suc, ℤ, List, [], ◌∷◌, length, map, Option, Some}
 use Rattle.std.proofs.Common.{None, Result, Ok, Err, if◌then◌else◌, slice_get, refl, sym, ap, ◌∙◌}
 use Rattle.std.proofs.{Math.Bool.and-false, lemmas.List.length-map}
-use Rattle.best_fit.specs.Table.{BackingArray}
 use Rattle.seg_types.specs.declared.kinds.Kind.TheVariants.{Map, Scalar, String, Strings as StringsKind}
 use Rattle.seg_types.specs.declared.refusals.Refusal.TheVariants.{NotFound, OutOfRange, WrongKind}
 use Rattle.seg_types.specs.Names.{ByHandle, Key}
@@ -18,7 +17,7 @@ use Rattle.segment_manager.specs.Step.{effect, get, is_read_only, step, step_of_
 use Rattle.segment_manager.specs.{declared.modes.Mode.Mode, declared.objects.object_ref.Object.Object as Located}
 use Rattle.segment_manager.specs.{Calls.elements_of, Calls.scalar_reply, objects.Located.IsLocated, Parts.part_of}
 use Rattle.segment_manager.specs.{Parts.parts_until, State.AnswersWith, State.SegmentState, State.DenotesCurrent}
-use Rattle.segment_manager.proofs.{CommandLaws.IsTexts, CommandLaws.answered-reads, CommandLaws.texts-if, Laws.said-at}
+use Rattle.segment_manager.proofs.{CommandLaws.answered-reads, ElementLaws.with-found, Laws.IsSaidAt, Laws.said-at}
 use Rattle.segment_values.specs.Asked.{length_in}
 use Rattle.segment_values.specs.Contents.{ValueContent, bytes_in, content_of, count_of_content}
 use Rattle.segment_values.specs.Layouts.{Spelling, content_part, count_at, laid_at, laid_object, laid_out, object_count}
@@ -45,121 +44,70 @@ abbrev pub string_text : Spelling → ℕ → Result (List ℕ) Refusal → List
 string_text s i (Ok bs) = s.text i bs
 string_text s i (Err r) = []
 
-at-value : (sp : Spelling) (i : ℕ) (d : Directory) (key : Key) (o : Object) (v : Value) → object_at d key ≡ Some o
-    → o.value ≡ v
-    → part_at sp d key i ≡ content_part sp (content_of v) i
-at-value sp i d key o v e f = ap (part_of (object_part sp i)) e ∙ ap (λ (w : Value). content_part sp (content_of w) i) f
+module _ (sp : Spelling) (i : ℕ) (d : Directory) where
+  -- a number that is read, or that is not there
+  number-read : (k : ScalarKind) (r : Option ℤ)
+      → element_text sp i (perform d (live d) (with (elim r as (λ _. Result ℤ Refusal) [
+        | None ↦ Err OutOfRange
+        | Some z ↦ Ok z
+      ]) (λ z. Reply (Element k z) d))).0 ≡ part_of (sp.scalar i k) r
+  number-read k None = refl
+  number-read k (Some z) = refl
 
-abbrev going_on : (Object → Plan) → Option Object → Plan
-going_on next r = with (elim r as (λ _. Result Object Refusal) [ None ↦ Err NotFound | Some o ↦ Ok o ]) next
+  -- a text that is read, or that is not there
+  text-read : (ps : List OwnedText) (j : ℕ)
+      → element_text sp i (perform d (live d) (with (elim (slice_get ps j) as (λ _. Result OwnedText Refusal) [
+        | None ↦ Err OutOfRange
+        | Some p ↦ Ok p
+      ]) (λ p. Reply (TextElement p.bytes) d))).0 ≡ part_of (sp.text i) (slice_get (map bytes_in ps) j)
+  text-read [] j = refl
+  text-read (p ∷ ps) zero = refl
+  text-read (p ∷ ps) (suc j) = text-read ps j
 
--- the answer for an element, if it exists or not
-abbrev element_of : Directory → ScalarKind → Option ℤ → Plan
-element_of d k r = with (elim r as (λ _. Result ℤ Refusal) [ None ↦ Err OutOfRange | Some z ↦ Ok z ]) (λ z.
-    Reply (Element k z) d)
+  -- the answer for a value whose elements are scalars
+  scalar-said : (v : Value) → (kind_of v ≡ String → ⊥) → (kind_of v ≡ StringsKind → ⊥)
+      → ((k l : ScalarKind) → kind_of v ≡ Map k l → ⊥) → (answer : Answer)
+      → answer ≡ (perform d (live d) (get d v i)).0
+      → element_text sp i (elim (elements_of (kind_of v)) as (λ _. Answer) [
+        | Err why ↦ Refused why
+        | Ok k ↦ answer
+      ]) ≡ content_part sp (content_of v) i
+  scalar-said (Numbers k zs) string strings map answer e = ap (element_text sp i) e ∙ number-read k (slice_get zs i)
+  scalar-said (Elements k zs t) string strings map answer e = ap (element_text sp i) e ∙ number-read k (slice_get zs i)
+  scalar-said (Bytes bs t) string strings map answer e = absurd (string refl)
+  scalar-said (Texts ps t) string strings map answer e = absurd (strings refl)
+  scalar-said (Pairs k l ps) string strings map answer e = absurd (map k l refl)
 
-element-if : (sp : Spelling) (i : ℕ) (d : Directory) (k : ScalarKind) (r : Option ℤ)
-    → element_text sp i (perform d (live d) (element_of d k r)).0 ≡ part_of (sp.scalar i k) r
-element-if sp i d k None = refl
-element-if sp i d k (Some z) = refl
+  -- the answer for a vector of strings
+  text-said : (v : Value) → kind_of v ≡ StringsKind → (p : Plan) → p ≡ get d v i
+      → element_text sp i (perform d (live d) (if same_kind StringsKind (kind_of v) then p else Refuse WrongKind)).0
+      ≡ content_part sp (content_of v) i
+  text-said (Texts ps t) e p f = ap (λ (q : Plan). element_text sp i (perform d (live d) q).0) f ∙ text-read ps i
+  text-said v e p f = absurd (cc)
 
-abbrev elements_of_object : Option Object → Result ScalarKind Refusal
-elements_of_object r = elim r as (λ _. Result ScalarKind Refusal) [
-  | None ↦ Err NotFound
-  | Some o ↦ elements_of (kind_of o.value)
-]
+string-said : (sp : Spelling) (i : ℕ) (v : Value) → kind_of v ≡ String
+    → string_text sp i (text_bytes v) ≡ content_part sp (content_of v) i
+string-said sp i (Bytes bs t) e = refl
+string-said sp i v e = absurd (cc)
 
-abbrev reply_for : Mode → Directory → Key → ℕ → Result ScalarKind Refusal → Answer
-reply_for mode d key i r = elim r as (λ _. Answer) [ Err why ↦ Refused why | Ok k ↦ (step mode d (asked.Get key i)).0 ]
-
--- a number, alone or in a vector
-module _ (sp : Spelling) (mode : Mode) (d : Directory) (key : Key) (i : ℕ) (o : Object) (e : object_at d key
-    ≡ Some o) where
-  number-part : (v : Value) (k : ScalarKind) (zs : List ℤ) → o.value ≡ v → elements_of (kind_of v) ≡ Ok k
-      → get d v i ≡ element_of d k (slice_get zs i)
-      → content_part sp (content_of v) i ≡ part_of (sp.scalar i k) (slice_get zs i)
-      → element_text sp i (scalar_reply mode d key (asked.Get key i)) ≡ part_at sp d key i
-  number-part v k zs f has gets laid =
-      ap (λ (r : Option Object). element_text sp i (reply_for mode d key i (elements_of_object r))) e
-      ∙ ap (λ (w : Value). element_text sp i (reply_for mode d key i (elements_of (kind_of w)))) f
-      ∙ ap (λ (r : Result ScalarKind Refusal). element_text sp i (reply_for mode d key i r)) has
-      ∙ ap (element_text sp i) (answered-reads mode d (asked.Get key i) refl)
-      ∙ ap (λ (r : Option Object). element_text sp i (perform d (live d) (going_on (λ o. get d o.value i) r)).0) e
-      ∙ ap (λ (w : Value). element_text sp i (perform d (live d) (get d w i)).0) f
-      ∙ ap (λ (p : Plan). element_text sp i (perform d (live d) p).0) gets
-      ∙ element-if sp i d k (slice_get zs i) ∙ sym (at-value sp i d key o v e f ∙ laid)
-
-  value-part : (v : Value) → o.value ≡ v → (kind_of v ≡ String → ⊥) → (kind_of v ≡ StringsKind → ⊥)
-      → ((k l : ScalarKind) → kind_of v ≡ Map k l → ⊥)
-      → element_text sp i (scalar_reply mode d key (asked.Get key i)) ≡ part_at sp d key i
-  value-part (Numbers k zs) f string strings map = number-part (Numbers k zs) k zs f refl refl refl
-  value-part (Elements k zs t) f string strings map = number-part (Elements k zs t) k zs f refl refl refl
-  value-part (Bytes bs t) f string strings map = absurd (string refl)
-  value-part (Texts ps t) f string strings map = absurd (strings refl)
-  value-part (Pairs k l ps) f string strings map = absurd (map k l refl)
-
--- ---- texts
-
-abbrev owned_text : Spelling → ℕ → OwnedText → List ℕ
-owned_text sp i p = sp.text i p.bytes
-
-abbrev text_read : Directory → Option OwnedText → Plan
-text_read d r = with (elim r as (λ _. Result OwnedText Refusal) [ None ↦ Err OutOfRange | Some p ↦ Ok p ]) (λ p.
-    Reply (TextElement p.bytes) d)
-
-text-if : (sp : Spelling) (i : ℕ) (d : Directory) (r : Option OwnedText)
-    → element_text sp i (perform d (live d) (text_read d r)).0 ≡ part_of (owned_text sp i) r
-text-if sp i d None = refl
-text-if sp i d (Some p) = refl
-
-abbrev for_texts : Directory → Key → ℕ → Value → Plan
-for_texts d key i v = if same_kind StringsKind (kind_of v) then effect d (asked.Get key i) else Refuse WrongKind
+-- an element of a vector of strings that is asked for by its kind
+abbrev for_texts : Directory → Key → ℕ → Option Object → Plan
+for_texts d key i r = with (elim r as (λ _. Result Object Refusal) [ None ↦ Err NotFound | Some o ↦ Ok o ]) (λ o.
+    if same_kind StringsKind (kind_of o.value) then effect d (asked.Get key i) else Refuse WrongKind)
 
 asked-step : (mode : Mode) (d : Directory) (key : Key) (i : ℕ)
     → (step_of_kind mode d key StringsKind (asked.Get key i)).0
-    ≡ (perform d (live d) (going_on (λ o. for_texts d key i o.value) (object_at d key))).0
+    ≡ (perform d (live d) (for_texts d key i (object_at d key))).0
 unfolding step_of_kind
-asked-step mode d key i =
-    ap (λ b. (perform d (live d) (if b then Refuse refusal.ReadOnly else going_on (λ o. for_texts d key i o.value)
+asked-step mode d key i = ap (λ b. (perform d (live d) (if b then Refuse refusal.ReadOnly else for_texts d key i
     (object_at d key))).0) (and-false (is_read_only mode))
 
-text-is : (sp : Spelling) (mode : Mode) (d : Directory) (key : Key) (o : Object) (ps : List OwnedText)
-    (t : BackingArray) (i : ℕ) → object_at d key ≡ Some o → o.value ≡ Texts ps t
-    → element_text sp i (step_of_kind mode d key StringsKind (asked.Get key i)).0
-    ≡ part_of (owned_text sp i) (slice_get ps i)
-text-is sp mode d key o ps t i e f =
-    ap (element_text sp i) (asked-step mode d key i)
-    ∙ ap (λ (r : Option Object). element_text sp i
-    (perform d (live d) (going_on (λ o. for_texts d key i o.value) r)).0) e
-    ∙ ap (λ (v : Value). element_text sp i (perform d (live d) (for_texts d key i v)).0) f
-    ∙ ap (λ (r : Option Object). element_text sp i (perform d (live d) (going_on (λ o. get d o.value i) r)).0) e
-    ∙ ap (λ (v : Value). element_text sp i (perform d (live d) (get d v i)).0) f
-    ∙ text-if sp i d (slice_get ps i)
-
-got-made : (f : List ℕ → List ℕ) (ps : List OwnedText) (i : ℕ)
-    → part_of f (slice_get (map bytes_in ps) i) ≡ part_of (λ (p : OwnedText). f p.bytes) (slice_get ps i)
-got-made f [] i = refl
-got-made f (p ∷ ps) zero = refl
-got-made f (p ∷ ps) (suc i) = got-made f ps i
-
--- ---- the kinds
-
-record IsNumbers (k : ScalarKind) (v : Value) : Type 0 where
-  numbers : List ℤ
-  is : v ≡ Numbers k numbers
-
-numbers-if : (k : ScalarKind) (v : Value) → kind_of v ≡ Scalar k → IsNumbers k v
-numbers-if k (Numbers l zs) e = let same : l ≡ k = cc in record { numbers = zs; is = λ i. Numbers (same i) zs }
-numbers-if k v e = absurd (cc)
-
-record IsBytes (v : Value) : Type 0 where
-  bytes : List ℕ
-  table : BackingArray
-  is : v ≡ Bytes bytes table
-
-bytes-if : (v : Value) → kind_of v ≡ String → IsBytes v
-bytes-if (Bytes bs t) e = record { bytes = bs; table = t; is = refl }
-bytes-if v e = absurd (cc)
+-- the element of a scalar that is asked for
+abbrev scalar_in : Answer → Option Object → Answer
+scalar_in answer r = elim (elim r as (λ _. Result ScalarKind Refusal) [
+  | None ↦ Err NotFound
+  | Some o ↦ elements_of (kind_of o.value)
+]) as (λ _. Answer) [ Err why ↦ Refused why | Ok k ↦ answer ]
 
 -- ---- how many there are
 
@@ -167,12 +115,18 @@ bytes-if v e = absurd (cc)
 abbrev pub sizes_of_object : Option Object → Result (ℕ × ℕ) Refusal
 sizes_of_object r = elim r as (λ _. Result (ℕ × ℕ) Refusal) [ None ↦ Err NotFound | Some o ↦ sizes_of o.value ]
 
-abbrev bytes_of_object : Option Object → Result (List ℕ) Refusal
-bytes_of_object r = elim r as (λ _. Result (List ℕ) Refusal) [ None ↦ Err NotFound | Some o ↦ text_bytes o.value ]
-
 -- the count of an object, if it is there
 abbrev pub count_of_object : Option Object → ℕ
 count_of_object r = elim r as (λ _. ℕ) [ None ↦ 0 | Some o ↦ object_count o ]
+
+-- an array has as many elements as it counts
+numbers-counted : (v : Value) (k : ScalarKind) → kind_of v ≡ Scalar k → count_of v ≡ count_of_content (content_of v)
+numbers-counted (Numbers l zs) k e = refl
+numbers-counted v k e = absurd (cc)
+
+one-string : (v : Value) → kind_of v ≡ String → 1 ≡ count_of_content (content_of v)
+one-string (Bytes bs t) e = refl
+one-string v e = absurd (cc)
 
 -- a container that is no string has as many elements as its length
 measured : (v : Value) → ((k : ScalarKind) → kind_of v ≡ Scalar k → ⊥) → (kind_of v ≡ String → ⊥)
@@ -186,28 +140,27 @@ measured (Texts ps t) n m = sym (length-map ps bytes_in)
 -- ---- the object of a handle
 
 module _ (s : SegmentState) (o : Located) (l : IsLocated s (ByHandle o.handle) o) where
-  kind-said : (d : Directory) (st : DenotesCurrent s.cut.bytes d)
-      → o.kind ≡ kind_of (said-at s (ByHandle o.handle) o l d st).object.value
-  kind-said d st = ap (λ (q : Located). q.kind) (said-at s (ByHandle o.handle) o l d st).said
+  -- the directory has the object, of this kind
+  pub here : (d : Directory) → DenotesCurrent s.cut.bytes d → IsSaidAt d (ByHandle o.handle) o
+  here d st = said-at s (ByHandle o.handle) o l d st
+
+  pub kind-here : (d : Directory) (st : DenotesCurrent s.cut.bytes d) → o.kind ≡ kind_of (here d st).object.value
+  kind-here d st = ap (λ (q : Located). q.kind) (here d st).said
 
   -- how many elements it has
   pub scalars-counted : (k : ScalarKind) (n : ℕ) → o.kind ≡ Scalar k → n ≡ o.count
       → AnswersWith s (λ d. count_at d (ByHandle o.handle)) n
   scalars-counted k n e c = record {
     answers = λ d st.
-        let f = said-at s (ByHandle o.handle) o l d st in
-        let v : IsNumbers k f.object.value = numbers-if k f.object.value (sym (kind-said d st) ∙ e) in
-        c ∙ ap (λ (q : Located). q.count) f.said ∙ ap count_of v.is
-        ∙ sym (ap count_of_object f.is ∙ ap (λ w. count_of_content (content_of w)) v.is);
+        let f = here d st in
+        rw (f.is, count_at) (c ∙ ap (λ (q : Located). q.count) f.said
+        ∙ numbers-counted f.object.value k (sym (kind-here d st) ∙ e));
   }
 
   -- a string counts as one element
   pub string-counted : o.kind ≡ String → AnswersWith s (λ d. count_at d (ByHandle o.handle)) 1
   string-counted e = record {
-    answers = λ d st.
-        let f = said-at s (ByHandle o.handle) o l d st in
-        let v : IsBytes f.object.value = bytes-if f.object.value (sym (kind-said d st) ∙ e) in
-        sym (ap count_of_object f.is ∙ ap (λ w. count_of_content (content_of w)) v.is);
+    answers = λ d st. let f = here d st in rw (f.is, count_at) (one-string f.object.value (sym (kind-here d st) ∙ e));
   }
 
   -- another object counts its length
@@ -216,10 +169,9 @@ module _ (s : SegmentState) (o : Located) (l : IsLocated s (ByHandle o.handle) o
       → AnswersWith s (λ d. count_at d (ByHandle o.handle)) n
   others-counted n no_scalar no_text a = record {
     answers = λ d st.
-        let f = said-at s (ByHandle o.handle) o l d st in
-        a.answers d st ∙ ap (λ r. length_in (sizes_of_object r)) f.is
-        ∙ measured f.object.value (λ k e. no_scalar k (kind-said d st ∙ e)) (λ e. no_text (kind-said d st ∙ e))
-        ∙ sym (ap count_of_object f.is);
+        let f = here d st in let long = rw (f.is, length_in, sizes_at) at (a.answers d st) in
+        rw (f.is, count_at) (long ∙ measured f.object.value (λ k e. no_scalar k (kind-here d st ∙ e)) (λ e.
+        no_text (kind-here d st ∙ e)));
   }
 
   -- the element at a place, by how it is read
@@ -228,31 +180,29 @@ module _ (s : SegmentState) (o : Located) (l : IsLocated s (ByHandle o.handle) o
       → element_text sp i (scalar_reply s.mode d (ByHandle o.handle) (asked.Get (ByHandle o.handle) i))
       ≡ part_at sp d (ByHandle o.handle) i
   scalar-part sp i string strings map d st =
-      let f = said-at s (ByHandle o.handle) o l d st in
-      let same = kind-said d st in
-      value-part sp s.mode d (ByHandle o.handle) i f.object f.is f.object.value refl (λ e. string (same ∙ e)) (λ e.
-      strings (same ∙ e)) (λ k l e. map k l (same ∙ e))
+      let f = here d st in let same = kind-here d st in let command = asked.Get (ByHandle o.handle) i in
+      ap (λ (r : Option Object). element_text sp i (scalar_in (step s.mode d command).0 r)) f.is
+      ∙ scalar-said sp i d f.object.value (λ e. string (same ∙ e)) (λ e. strings (same ∙ e)) (λ k l e.
+      map k l (same ∙ e)) (step s.mode d command).0 (answered-reads s.mode d command refl
+      ∙ ap (λ (p : Plan). (perform d (live d) p).0)
+      (with-found d (ByHandle o.handle) f.object (λ o. get d o.value i) f.is))
+      ∙ sym (ap (part_of (object_part sp i)) f.is)
 
   -- the text of a string of a vector
   pub text-part : (sp : Spelling) (i : ℕ) → o.kind ≡ StringsKind → (d : Directory) → DenotesCurrent s.cut.bytes d
       → element_text sp i (step_of_kind s.mode d (ByHandle o.handle) StringsKind
       (asked.Get (ByHandle o.handle) i)).0 ≡ part_at sp d (ByHandle o.handle) i
   text-part sp i e d st =
-      let f = said-at s (ByHandle o.handle) o l d st in
-      let v : IsTexts f.object.value = texts-if f.object.value (sym (kind-said d st) ∙ e) in
-      text-is sp s.mode d (ByHandle o.handle) f.object v.texts v.table i f.is v.is
-      ∙ sym (at-value sp i d (ByHandle o.handle) f.object (Texts v.texts v.table) f.is v.is
-      ∙ got-made (sp.text i) v.texts i)
+      let f = here d st in
+      rw (asked-step s.mode d (ByHandle o.handle) i, f.is)
+      (text-said sp i d f.object.value (sym (kind-here d st) ∙ e) (effect d (asked.Get (ByHandle o.handle) i))
+      (with-found d (ByHandle o.handle) f.object (λ o. get d o.value i) f.is))
 
   -- the text of a string
   pub string-part : (sp : Spelling) (i : ℕ) → o.kind ≡ String → (d : Directory) → DenotesCurrent s.cut.bytes d
       → string_text sp i (bytes_at d (ByHandle o.handle)) ≡ part_at sp d (ByHandle o.handle) i
   string-part sp i e d st =
-      let f = said-at s (ByHandle o.handle) o l d st in
-      let v : IsBytes f.object.value = bytes-if f.object.value (sym (kind-said d st) ∙ e) in
-      ap (λ (r : Option Object). string_text sp i (bytes_of_object r)) f.is
-      ∙ ap (λ (w : Value). string_text sp i (text_bytes w)) v.is
-      ∙ sym (at-value sp i d (ByHandle o.handle) f.object (Bytes v.bytes v.table) f.is v.is)
+      let f = here d st in rw (f.is, bytes_at) (string-said sp i f.object.value (sym (kind-here d st) ∙ e))
 
 -- ---- all of them
 

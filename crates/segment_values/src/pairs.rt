@@ -1,6 +1,6 @@
 //! Puts, looks up and erases pairs of maps, with keys and values as callers write them.
 ghost use Rattle.std.specs.Prelude.{◌≡◌, Ok, OnErr, false};
-ghost use Rattle.seg_types.specs.Commands.{Lookup, Put, Remove, literal_of};
+ghost use Rattle.seg_types.specs.Commands.{Lookup, Put, Remove};
 ghost use Rattle.seg_types.specs.{declared.kinds.Kind.TheVariants.Map as MapOf, Keys.key_seen, Names.ByHandle};
 ghost use Rattle.seg_types.specs.{Values.kind_of_scalar, Values.value_of_scalar, Written.literal_seen};
 ghost use Rattle.segment_manager.specs.{Keeping.ChangesValue, Keeping.LacksPair, Keeping.UnchangedWhere};
@@ -11,9 +11,7 @@ ghost use Rattle.segment_values.specs.Absent.{LacksLiteral};
 
 use crate::by_pair::by_pair;
 use crate::objects::object_to_change;
-use seg_types::{
-    Key, Kind, Refusal, Scalar, ScalarKind, ScalarValue, WrittenValue, by_value, pair_of,
-};
+use seg_types::{Key, Kind, Refusal, ScalarKind, ScalarValue, WrittenValue, by_value, pair_of};
 use segment_manager::{Map, MapMut, Object, Segment, locate};
 
 /// Sets the value of a map key in a map, and returns true if the map key is new.
@@ -72,28 +70,7 @@ pub fn insert_pair(
     ensures overwrite { ChangesValue segment.old segment.new (ByHandle object.handle) (kind_of_scalar at)
         (value_of_scalar at) (kind_of_scalar value) }
 {
-    by_value!(at, at => insert_by_key(segment, object, at, value))
-}
-
-/// Sets the value of the map key `at`, for map keys of a type, and returns true if `at` is new. It is inlined, so the
-/// kind of the map key is matched on once.
-#[inline(always)]
-fn insert_by_key<K: Scalar>(
-    segment: &mut Segment,
-    object: Object,
-    at: K,
-    value: ScalarValue,
-) -> Result<bool, Refusal>
-    requires object { IsBound (MapOf K.kind (kind_of_scalar value)) object segment.old }
-    requires writing { is_read_only segment.old.mode ≡ false }
-    ensures step { TakesStepOfKind segment.old segment.new (ByHandle object.handle)
-        (MapOf K.kind (kind_of_scalar value))
-        (Put (ByHandle object.handle) (literal_of K.kind (K.whole at)) (literal_seen value)) (truth_answer result) }
-    ensures refused { OnErr result (segment.new ≡ segment.old) }
-    ensures overwrite { ChangesValue segment.old segment.new (ByHandle object.handle) K.kind (K.whole at)
-        (kind_of_scalar value) }
-{
-    by_value!(value, value => MapMut::at(segment, object).insert(at, value))
+    by_value!(at, at => by_value!(value, value => MapMut::at(segment, object).insert(at, value)))
 }
 
 /// Returns the value of a map key in a map, or `None` if the map lacks the map key.
@@ -122,14 +99,9 @@ pub fn look_up<L: WrittenValue>(
     }
 }
 
-/// Returns the value of the map key `at` in a located map of its kind and the kind `values`, or `None` if the map lacks
-/// it.
-///
-/// # Conditions
-///
-/// The object is there and has the kind.
+/// Returns the value of the map key `at` in a map of its kind and the kind `values`, or `None` if the map lacks it.
 #[inline(always)]
-pub fn look_up_scalar(
+fn look_up_scalar(
     segment: &Segment,
     object: Object,
     at: ScalarValue,

@@ -51,7 +51,7 @@ pub fn next_pair(
 }
 
 /// Returns the least value of a kind.
-pub(crate) fn least(kind: ScalarKind) -> ScalarValue
+pub fn least(kind: ScalarKind) -> ScalarValue
     ensures kind { kind_of_scalar result ≡ kind }
     ensures value { value_of_scalar result ≡ lowest kind }
 {

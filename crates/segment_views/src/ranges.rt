@@ -4,7 +4,6 @@ ghost use Rattle.std.specs.Iterator.{at_most};
 ghost use Rattle.std.specs.Range.Bound.{bound_map};
 ghost use Rattle.std.specs.declared.ops.Bound.TheVariants.{Excluded, Unbounded};
 ghost use Rattle.seg_types.specs.Kinds.{lowest as lowest_of};
-ghost use Rattle.seg_types.specs.Values.{kind_of_scalar, value_of_scalar};
 ghost use Rattle.segment_manager.specs.objects.BoundObjects.{key_of};
 ghost use Rattle.segment_manager.specs.containers.Maps.{numbers_in};
 ghost use Rattle.segment_manager.specs.State.{AnswersWith};
@@ -13,9 +12,10 @@ ghost use Rattle.segment_views.specs.Ranged.{AreAhead, GoesBackPairs, GoesOnPair
 ghost use Rattle.segment_views.specs.Ranged.{is_up_to as is_up_to_end, last_between as last_of, range_of};
 
 use crate::ahead::NodesAhead;
+use seg_types::Scalar;
 use seg_types::theorems::scalar_is_number;
-use seg_types::{Scalar, ScalarKind, ScalarValue};
 use segment_manager::{BoundContent, Map, Pairs};
+use segment_values::least;
 use std::marker::{Model, PhantomData};
 use std::ops::Bound;
 
@@ -134,28 +134,9 @@ fn first_between<K: Scalar, V: Scalar>(
         slice_get (range_of (bound_map K.whole start) (bound_map K.whole end)
         (pairs_at_kinds d (key_of map.now.object) K.kind V.kind)) 0) (numbers_in K.whole V.whole result) }
 {
-    let pair = first_from(map, start, ahead)?;
-    is_up_to(end, pair.0).then_some(pair)
-}
-
-/// Returns the first pair of a map with a key that is not below a bound, whose node is then the first that is listed
-/// ahead.
-fn first_from<K: Scalar, V: Scalar>(
-    map: &Map<'_, K, V>,
-    start: Bound<K>,
-    ahead: &mut NodesAhead,
-) -> Option<(K, V)>
-    requires { AreAhead map.now.segment.now (key_of map.now.object) K.kind V.kind (bound_map K.whole start) ahead.old }
-    ensures nodes { AreAhead map.now.segment.now (key_of map.now.object) K.kind V.kind (bound_map K.whole start)
-        ahead.new }
-    ensures rest { IfSome result (λ pair. AreAhead map.now.segment.now (key_of map.now.object) K.kind V.kind
-        (Excluded (K.whole pair.0)) (drop 1 ahead.new)) }
-    ensures pair { AnswersWith map.now.segment.now (λ d.
-        slice_get (range_of (bound_map K.whole start) Unbounded
-        (pairs_at_kinds d (key_of map.now.object) K.kind V.kind)) 0) (numbers_in K.whole V.whole result) }
-{
     ahead.list(map, start);
-    map.pair_of(ahead.first()?)
+    let pair = map.pair_of(ahead.first()?)?;
+    is_up_to(end, pair.0).then_some(pair)
 }
 
 /// Returns the last pair of a map with a key between two bounds.
@@ -191,24 +172,10 @@ pub fn lowest<T: Scalar>() -> T
 {
     let mut bytes = [0; LONGEST];
     let spelling = &mut bytes[..T::SIZE as usize];
-    least_value(T::kind()).write(spelling);
+    least(T::kind()).write(spelling);
     match scalar_is_number::<T>(spelling) {
         Some(value) => value,
         None => unreachable!(),
-    }
-}
-
-/// Returns the least value of a kind.
-fn least_value(kind: ScalarKind) -> ScalarValue
-    ensures kind { kind_of_scalar result ≡ kind }
-    ensures value { value_of_scalar result ≡ lowest_of kind }
-{
-    match kind {
-        ScalarKind::Bool => ScalarValue::Bool(false),
-        ScalarKind::U8 => ScalarValue::U8(0),
-        ScalarKind::I32 => ScalarValue::I32(i32::MIN),
-        ScalarKind::I64 => ScalarValue::I64(i64::MIN),
-        ScalarKind::U64 => ScalarValue::U64(0),
     }
 }
 

@@ -1,14 +1,14 @@
 -- The parts of a code determine its kind: the container, the key and the element.
-use Rattle.std.proofs.Common.{◌≡◌, ◌≢◌, refl, sym, ap, subst, ◌∙◌, ℕ, ◌/◌, ◌%◌, ◌≤◌, ◌==◌, Bool, true, false}
-use Rattle.std.proofs.Common.{arith, List, [], ◌∷◌}
-use Rattle.std.proofs.lemmas.Bool.{eqb-true, ne_eqb}
+use Rattle.std.proofs.Common.{◌≡◌, ◌≢◌, refl, sym, ap, subst, ◌∙◌, ℕ, ◌/◌, ◌%◌, ◌≤◌, ◌==◌, Bool}
+use Rattle.std.proofs.Common.{arith, List, [], ◌∷◌, inl, inr}
+use Rattle.std.proofs.lemmas.Bool.{cases_Bool, eqb-true, ne_eqb}
 use Rattle.std.proofs.lemmas.Option.{none-some, same_Some}
 use Rattle.std.specs.Prelude.{Option, Some, None, cond, find, option_map}
 use Rattle.seg_types.specs.Kinds.{code_of, kind_of_code, kinds, scalar_code, scalar_kinds, scalar_of_code}
 use Rattle.seg_types.specs.declared.kinds.ScalarKind.{ScalarKind}
 use Rattle.seg_types.specs.declared.kinds.ScalarKind.TheVariants.{Bool as BoolKind, U8, I32, I64, U64}
 use Rattle.seg_types.specs.declared.kinds.Kind.{Kind}
-use Rattle.seg_types.specs.declared.kinds.Kind.TheVariants.{Scalar, String, Vector, Map, Strings}
+use Rattle.seg_types.specs.declared.kinds.Kind.TheVariants.{Scalar, Vector, Map}
 
 -- ---- codes are read
 
@@ -39,46 +39,28 @@ no_kind code none = none_among code kinds none
 
 -- ---- scalars
 
-scalar_least : (k : ScalarKind) → 1 ≤ scalar_code k
-scalar_least BoolKind = omega arith
-scalar_least U8 = omega arith
-scalar_least I32 = omega arith
-scalar_least I64 = omega arith
-scalar_least U64 = omega arith
-
 scalar_most : (k : ScalarKind) → scalar_code k ≤ 5
 scalar_most BoolKind = omega arith
-scalar_most U8 = omega arith
-scalar_most I32 = omega arith
-scalar_most I64 = omega arith
-scalar_most U64 = omega arith
+scalar_most k = omega arith
 
 -- the scalar kind of a scalar kind's code
 scalar-read : (k : ScalarKind) → scalar_of_code (scalar_code k) ≡ Some k
 unfolding scalar_of_code
 scalar-read BoolKind = refl
-scalar-read U8 = refl
-scalar-read I32 = refl
-scalar-read I64 = refl
-scalar-read U64 = refl
+scalar-read k = refl
 
 -- no scalar kind has a code of none
 scalar_none : (code : ℕ) → scalar_of_code code ≡ None → (k : ScalarKind) → scalar_code k ≢ code
 scalar_none code none k e =
-    let some : scalar_of_code code ≡ Some k = subst (λ c. scalar_of_code c ≡ Some k) e (scalar-read k) in
-    none-some k (sym none ∙ some)
-
-holds_if : (code : ℕ) (k l : ScalarKind) (ks : List ScalarKind)
-    → (find (λ s. code == scalar_code s) ks ≡ Some l → code ≡ scalar_code l) → (b : Bool)
-    → (code == scalar_code k) ≡ b → cond b (Some k) (find (λ s. code == scalar_code s) ks) ≡ Some l
-    → code ≡ scalar_code l
-holds_if code k l ks later true e is = eqb-true code (scalar_code k) e ∙ ap scalar_code (same_Some k l is)
-holds_if code k l ks later false e is = later is
+    none-some k (sym none ∙ subst (λ c. scalar_of_code c ≡ Some k) e (scalar-read k))
 
 found_among : (code : ℕ) (ks : List ScalarKind) (l : ScalarKind) → find (λ s. code == scalar_code s) ks ≡ Some l
     → code ≡ scalar_code l
 found_among code [] l is = absurd (none-some l is)
-found_among code (k ∷ ks) l is = holds_if code k l ks (found_among code ks l) (code == scalar_code k) refl is
+found_among code (k ∷ ks) l is = elim (cases_Bool (code == scalar_code k)) [
+  | inl e ↦ eqb-true code (scalar_code k) e ∙ ap scalar_code (same_Some k l (rw e at is))
+  | inr e ↦ found_among code ks l (rw e at is)
+]
 
 -- the scalar kind of a code has it
 scalar_some : (code : ℕ) (k : ScalarKind) → scalar_of_code code ≡ Some k → code ≡ scalar_code k
@@ -89,10 +71,7 @@ scalar_some code k is = found_among code scalar_kinds k is
 
 no_scalar : (code : ℕ) → code / 65536 ≡ 0 → scalar_of_code code ≡ None → (k : Kind) → code_of k ≢ code
 no_scalar code part none (Scalar s) e = scalar_none code none s e
-no_scalar code part none String e = omega arith
-no_scalar code part none (Vector s) e = omega arith
-no_scalar code part none (Map k v) e = omega arith
-no_scalar code part none Strings e = omega arith
+no_scalar code part none k e = omega arith
 
 scalar_if : (code : ℕ) → code / 65536 ≡ 0 → (o : Option ScalarKind) → scalar_of_code code ≡ o
     → kind_of_code code ≡ option_map Scalar o
@@ -105,10 +84,8 @@ scalar_part code part = scalar_if code part (scalar_of_code code) refl
 
 no_vector : (code : ℕ) → code / 65536 ≡ 2 → scalar_of_code (code % 65536) ≡ None → (k : Kind) → code_of k ≢ code
 no_vector code part none (Scalar s) e = let most = scalar_most s in omega arith
-no_vector code part none String e = omega arith
 no_vector code part none (Vector s) e = let most = scalar_most s in scalar_none (code % 65536) none s (omega arith)
-no_vector code part none (Map k v) e = omega arith
-no_vector code part none Strings e = omega arith
+no_vector code part none k e = omega arith
 
 vector_if : (code : ℕ) → code / 65536 ≡ 2 → (o : Option ScalarKind) → scalar_of_code (code % 65536) ≡ o
     → kind_of_code code ≡ option_map Vector o
@@ -131,11 +108,10 @@ no_map : (code : ℕ) → code / 65536 ≡ 3
     → ((k v : ScalarKind) → scalar_code k ≡ code / 256 % 256 → scalar_code v ≡ code % 256 → ⊥)
     → (k : Kind) → code_of k ≢ code
 no_map code part none (Scalar s) e = let most = scalar_most s in omega arith
-no_map code part none String e = omega arith
 no_map code part none (Vector s) e = let most = scalar_most s in omega arith
 no_map code part none (Map k v) e =
     let most = scalar_most k in let high = scalar_most v in none k v (omega arith) (omega arith)
-no_map code part none Strings e = omega arith
+no_map code part none k e = omega arith
 
 -- without a key there is none
 pub map_without_key : (code : ℕ) → code / 65536 ≡ 3 → scalar_of_code (code / 256 % 256) ≡ None

@@ -4,7 +4,7 @@ use Rattle.std.proofs.Common.{arith, ap, sym, ◌∙◌, refl}
 use Rattle.std.specs.Str.{IsAscii, IsUtf8, chars, is_utf8}
 use Rattle.std.specs.List.{list_all}
 use Rattle.std.specs.Prelude.{not}
-use Rattle.std.proofs.lemmas.Bool.{and_parts}
+use Rattle.std.proofs.lemmas.Bool.{and_from, and_parts}
 use Rattle.std.proofs.lemmas.Bool.Decides.{nat_tests}
 use Rattle.std.proofs.lemmas.Str.{IsUtf8-from_ascii, chars-IsAscii, is_utf8-from_IsUtf8}
 use Rattle.std.proofs.lemmas.Str.Ascii.{IsAscii-cons, IsAscii-nil}
@@ -12,10 +12,7 @@ use Rattle.seg_types.specs.Names.{is_control, is_text_name}
 use Rattle.seg_types.specs.Texts.{is_bare_name, is_letter, is_name_byte}
 
 last_of : (a b c d : Bool) → a ≡ true → b ≡ true → c ≡ true → d ≡ (a && b && c && d)
-last_of true true true d p q r = refl
-last_of false b c d p q r = cc
-last_of true false c d p q r = cc
-last_of true true false d p q r = cc
+last_of a b c d p q r = rw (p, q, r)
 
 -- of 1 to 255 bytes of UTF-8, those without control characters are names
 pub text_name : (name : List ℕ) → 0 < length name → length name ≤ 255 → IsUtf8 name
@@ -34,15 +31,13 @@ printable-ascii (c ∷ cs) h =
 no_control : (c : ℕ) → (nat_le 0x20 c && nat_le c 0x7E) ≡ true → not (is_control c) ≡ true
 no_control c h = grind (arith, nat_tests)
 
-pub both : (b c : Bool) → b ≡ true → c ≡ true → (b && c) ≡ true
-both b c p q = rw (p, q) refl
-
 printable-uncontrolled : (name : List ℕ) → list_all (λ c. nat_le 0x20 c && nat_le c 0x7E) name ≡ true
     → list_all (λ c. not (is_control c)) name ≡ true
 printable-uncontrolled [] h = refl
 printable-uncontrolled (c ∷ cs) h =
     let p = and_parts (nat_le 0x20 c && nat_le c 0x7E) (list_all (λ c. nat_le 0x20 c && nat_le c 0x7E) cs) h in
-    both (not (is_control c)) (list_all (λ c. not (is_control c)) cs) (no_control c p.0) (printable-uncontrolled cs p.1)
+    and_from (not (is_control c)) (list_all (λ c. not (is_control c)) cs) (no_control c p.0)
+    (printable-uncontrolled cs p.1)
 
 -- bytes from 0x20 to 0x7E are characters, and none of them is a control character
 pub printable_name : (name : List ℕ) → 0 < length name → length name ≤ 255
@@ -62,7 +57,7 @@ all-printable : (cs : List ℕ) → list_all is_name_byte cs ≡ true
     → list_all (λ c. nat_le 0x20 c && nat_le c 0x7E) cs ≡ true
 all-printable [] h = refl
 all-printable (c ∷ cs) h = let p = and_parts (is_name_byte c) (list_all is_name_byte cs) h in
-    both (nat_le 0x20 c && nat_le c 0x7E) (list_all (λ c. nat_le 0x20 c && nat_le c 0x7E) cs) (byte-printable c p.0)
+    and_from (nat_le 0x20 c && nat_le c 0x7E) (list_all (λ c. nat_le 0x20 c && nat_le c 0x7E) cs) (byte-printable c p.0)
     (all-printable cs p.1)
 
 pub bare_is_text : (name : List ℕ) → length name ≤ 255 → is_bare_name name ≡ true → is_text_name name ≡ true
@@ -70,7 +65,7 @@ bare_is_text [] short h = cc
 bare_is_text (c ∷ cs) short h =
     let p = and_parts (is_letter c || (c == 0x5F)) (list_all is_name_byte cs) h in
     sym (printable_name (c ∷ cs) (omega arith) short
-    (both (nat_le 0x20 c && nat_le c 0x7E) (list_all (λ c. nat_le 0x20 c && nat_le c 0x7E) cs)
+    (and_from (nat_le 0x20 c && nat_le c 0x7E) (list_all (λ c. nat_le 0x20 c && nat_le c 0x7E) cs)
     (first-printable c p.0) (all-printable cs p.1)))
 
 -- a longer name is no name

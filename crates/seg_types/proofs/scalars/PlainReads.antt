@@ -1,7 +1,8 @@
 -- A value of a plain type that is read from bytes; for a scalar type by the whole number in the bytes.
 use Rattle.std.proofs.Common.{◌≡◌, sym, ap, subst, ◌∙◌, ℕ, suc, ◌<◌, refl, inl, inr, Bool, true, false, ◌&&◌, ◌==◌}
 use Rattle.std.proofs.Common.{if◌then◌else◌, List, [], ◌∷◌, length, get_or, Option, Some, None, MatchOption, ℤ}
-use Rattle.std.proofs.lemmas.Bool.{and_parts, and_from, cases_Bool, cond-true, cond-false, eq-eqb, eqb-true, false≢true}
+use Rattle.std.proofs.lemmas.Bool.{and_parts, and_from, cases_Bool, cond-true, eq-eqb, eqb-true, false≢true}
+use Rattle.std.proofs.lemmas.Bool.{false_from_ne_true}
 use Rattle.std.specs.List.{AllByRecursion}
 use Rattle.byteorder.specs.Endian.{little_number}
 use Rattle.seg_types.specs.declared.kinds.ScalarKind.{ScalarKind}
@@ -63,7 +64,7 @@ read-value {T} reading is_one spell reads bytes None h = by_reading (reading byt
     by_reading (Some x) = elim (cases_Bool (is_one x && same_bytes (spell x) bytes)) [
       | inl t ↦ let two = and_parts (is_one x) (same_bytes (spell x) bytes) t
           in absurd (h x two.0 (same-equal (spell x) bytes two.1))
-      | inr f ↦ sym (cond-false (is_one x && same_bytes (spell x) bytes) (Some x) None f)
+      | inr f ↦ rw f
     ]
 
 -- ---- scalar types
@@ -75,10 +76,6 @@ pub whole-differs : {T : Type 0} (k : ScalarKind) (is_one : T → Bool) (spell :
     → (x y : T) → is_one x ≡ true → is_one y ≡ true → whole x ≡ whole y → x ≡ y
 whole-differs k is_one spell whole differs spelled x y h i e =
     differs x y h i (spelled x ∙ ap (spelling k) e ∙ sym (spelled y))
-
-not-true : (b : Bool) → (b ≡ true → ⊥) → b ≡ false
-not-true true h = absurd (h refl)
-not-true false h = refl
 
 all_bytes : (bytes : List ℕ) → ((i : ℕ) → get_or bytes i 0 < 256) → AllByRecursion (λ b. b < 256) bytes
 all_bytes [] small = tt
@@ -100,7 +97,7 @@ scalar-read k is_one spell whole values spelled reached bytes small len (Some x)
       sym law.reads ∙ ap (λ (bs : List ℕ). value_of k (little_number (size_of k) bs)) same,
     )
 scalar-read k is_one spell whole values spelled reached bytes small len None none =
-    not-true (is_spelling k bytes) (λ h.
+    false_from_ne_true (is_spelling k bytes) (λ h.
     let z : ℤ = value_of k (little_number (size_of k) bytes) in
     let found = reached z h in
     let same = (all_spell_one k z h).only bytes (all_bytes bytes small) len refl in

@@ -1,5 +1,5 @@
 -- New elements of vectors, inserted at a position of the vector of a handle.
-use Rattle.std.proofs.Common.{sym, subst, List, ℕ}
+use Rattle.std.proofs.Common.{◌≡◌, List, ℕ}
 use Rattle.seg_types.specs.Commands.{Insert, Literal, Push, Quoted}
 use Rattle.seg_types.specs.{declared.kinds.Kind.TheVariants.Strings, declared.kinds.Kind.TheVariants.Vector, Names.Key}
 use Rattle.seg_types.specs.{declared.refusals.Refusal.Refusal, declared.values.ScalarValue.ScalarValue, Names.ByHandle}
@@ -8,8 +8,8 @@ use Rattle.segment_manager.specs.{declared.objects.object_ref.Object.Object as L
 use Rattle.segment_manager.specs.{containers.Changeable.IsElement, containers.Changeable.IsNoElement, State.TakesStep}
 use Rattle.segment_manager.specs.{objects.Located.IsLocated, State.TakesStepOfKind, State.SegmentState}
 use Rattle.segment_manager.proofs.CommandLaws.{insert-element, push-element}
-use Rattle.segment_manager.proofs.{ElementLaws.of_kind-steps, Laws.step_of_kind-by_key}
-use Rattle.segment_values.specs.Changes.{IsTextElementFor, command_at}
+use Rattle.segment_manager.proofs.Laws.{located-steps}
+use Rattle.segment_values.specs.Changes.{command_at}
 use Rattle.segment_values.specs.declared.vectors.InsertSpot.{InsertSpot}
 use Rattle.segment_values.specs.declared.vectors.InsertSpot.TheVariants.{End, Before}
 
@@ -30,14 +30,10 @@ module _ {s : SegmentState} {key : Key} {l : Literal} where
     scalar-added (Before i) e r = insert-element located e i r
 
     -- an added string is the step of the command
-    pub text-added : (spot : InsertSpot) {bs : List ℕ} → IsTextElementFor s key l bs
+    pub text-added : (spot : InsertSpot) {bs : List ℕ} → o.kind ≡ Strings → l ≡ Quoted bs
         → TakesStepOfKind s new (ByHandle o.handle) Strings (command_at spot (ByHandle o.handle) (Quoted bs)) answer
         → TakesStep s new (command_at spot key l) answer
-    text-added End {bs} h r =
-        subst (λ m. TakesStep s new (Push key m) answer) (sym h.is)
-        (of_kind-steps s new key Strings (Push key (Quoted bs)) answer h.of_kind.is
-        (step_of_kind-by_key s key o located new Strings (Push key (Quoted bs)) answer r))
-    text-added (Before i) {bs} h r =
-        subst (λ m. TakesStep s new (Insert key i m) answer) (sym h.is)
-        (of_kind-steps s new key Strings (Insert key i (Quoted bs)) answer h.of_kind.is
-        (step_of_kind-by_key s key o located new Strings (Insert key i (Quoted bs)) answer r))
+    text-added End {bs} same is r =
+        rw is (located-steps s key o located new Strings (Push key (Quoted bs)) answer same r)
+    text-added (Before i) {bs} same is r =
+        rw is (located-steps s key o located new Strings (Insert key i (Quoted bs)) answer same r)

@@ -1,58 +1,48 @@
 -- The pairs of a map: all their texts together are the texts of its value.
-use Rattle.std.proofs.Common.{◌≡◌, ℕ, ◌+◌, Bool, List, [], length, Option, Some, None, slice_get, sym, ap, ◌∙◌, false}
-use Rattle.std.proofs.{Common.subst, lemmas.List.length-map}
+use Rattle.std.proofs.Common.{◌≡◌, ℕ, ◌+◌, Bool, Option, Some, None, slice_get, sym, ◌∙◌, false}
+use Rattle.std.proofs.{lemmas.List.length-map}
 use Rattle.std.specs.Prelude.{Result, option_map, true}
 use Rattle.raw_region.specs.Device.{WriterHistory, Writes}
 use Rattle.seg_types.specs.{declared.values.ScalarValue.ScalarValue, Kinds.lowest, Values.kind_of_scalar}
 use Rattle.seg_types.specs.{Values.value_of_scalar, declared.kinds.Kind.TheVariants.Map, Names.ByHandle}
 use Rattle.seg_types.specs.declared.kinds.ScalarKind.{ScalarKind}
-use Rattle.seg_map.specs.{Numbers.NumberPair, Places.item_of}
+use Rattle.seg_map.specs.{Places.item_of}
 use Rattle.segment_manager.specs.containers.Walks.{KindedPair, first_of, item_of_kinds, item_seen, pair_past, pairs_at}
 use Rattle.segment_manager.specs.containers.Walks.{pairs_of}
-use Rattle.segment_manager.specs.Directory.{Value, Pairs, Object, Directory, kind_of}
+use Rattle.segment_manager.specs.Directory.{Value, Pairs, Directory, kind_of}
 use Rattle.segment_manager.specs.State.{AnswersWith, SegmentState, DenotesCurrent}
 use Rattle.segment_manager.specs.{declared.objects.object_ref.Object.Object as Located, objects.BoundObjects.IsBound}
 use Rattle.segment_manager.specs.{objects.Located.IsLocated, Parts.part_of, Parts.parts_until}
-use Rattle.segment_manager.proofs.{Laws.said-at, PartLaws.well}
+use Rattle.segment_manager.proofs.{PartLaws.well}
 use Rattle.segment_manager.proofs.NextPairs.{IsNext, first-walked, next-behind, next-first, next-none, none-text}
 use Rattle.segment_manager.proofs.NextPairs.{pair-said}
 use Rattle.segment_values.specs.{Asked.pair_part, Asked.pair_text, Asked.walked_text, Writing.WritesFor}
 use Rattle.segment_values.specs.Contents.{content_of, count_of_content}
-use Rattle.segment_values.specs.Layouts.{Spelling, count_at, laid_at, laid_object, laid_out}
-use Rattle.segment_values.proofs.{Laid.laid-made, Laid.parts-laid, LaidElements.count_of_object, Located.bound-map}
+use Rattle.segment_values.specs.Layouts.{Spelling, count_at, laid_at, laid_out}
+use Rattle.segment_values.proofs.{Laid.laid-made, Laid.parts-laid, LaidElements.here, LaidElements.kind-here}
+use Rattle.segment_values.proofs.Located.{bound-map}
 use Rattle.segment_values.proofs.{Owed.of-none, Owed.of-one}
 
-record ArePairs (k v : ScalarKind) (w : Value) : Type 0 where
-  pairs : List NumberPair
-  is : w ≡ Pairs k v pairs
+-- the texts of the pairs of a value are the texts of the value
+pairs-laid : (sp : Spelling) (k v : ScalarKind) (w : Value) → kind_of w ≡ Map k v
+    → parts_until (λ j. part_of (pair_text sp k v j) (slice_get (pairs_of w) j)) (count_of_content (content_of w))
+    ≡ laid_out sp (content_of w)
+pairs-laid sp k v (Pairs l m ps) e =
+    let keys : k ≡ l = cc in let values : v ≡ m = cc in
+    rw (keys, values, length-map ps item_of)
+    (parts-laid (pair_text sp l m) ps ∙ sym (laid-made (λ j p. sp.pair j l m p) item_of 0 ps))
+pairs-laid sp k v w e = absurd (cc)
 
-pairs-if : (k v : ScalarKind) (w : Value) → kind_of w ≡ Map k v → ArePairs k v w
-pairs-if k v (Pairs l m ps) e = let keys : l ≡ k = cc in let values : m ≡ v = cc
-    in record { pairs = ps; is = λ i. Pairs (keys i) (values i) ps }
-pairs-if k v w e = absurd (cc)
-
-module _ (s : SegmentState) (o : Located) (l : IsLocated s (ByHandle o.handle) o) (k v : ScalarKind) (e : o.kind
-    ≡ Map k v) where
-  kind-said : (d : Directory) (st : DenotesCurrent s.cut.bytes d)
-      → o.kind ≡ kind_of (said-at s (ByHandle o.handle) o l d st).object.value
-  kind-said d st = ap (λ (q : Located). q.kind) (said-at s (ByHandle o.handle) o l d st).said
-
-  -- the texts that are written are the texts of its value
-  pub map-said : (sp : Spelling) (n : ℕ) → AnswersWith s (λ d. count_at d (ByHandle o.handle)) n → (d : Directory)
-      → DenotesCurrent s.cut.bytes d
-      → parts_until (pair_part sp k v d (ByHandle o.handle)) n ≡ laid_at sp d (ByHandle o.handle)
-  map-said sp n a d st =
-      let f = said-at s (ByHandle o.handle) o l d st in
-      let w : ArePairs k v f.object.value = pairs-if k v f.object.value (sym (kind-said d st) ∙ e) in
-      let long : n ≡ length w.pairs =
-      a.answers d st ∙ ap count_of_object f.is ∙ ap (λ u. count_of_content (content_of u)) w.is
-      ∙ length-map w.pairs item_of in
-      let are : pairs_at d (ByHandle o.handle) ≡ w.pairs =
-      ap (λ (r : Option Object). elim r as (λ _. List NumberPair) [ None ↦ [] | Some o ↦ pairs_of o.value ]) f.is
-      ∙ ap pairs_of w.is in
-      (λ i. parts_until (λ j. part_of (pair_text sp k v j) (slice_get (are i) j)) (long i))
-      ∙ parts-laid (pair_text sp k v) w.pairs ∙ sym (laid-made (λ j p. sp.pair j k v p) item_of 0 w.pairs)
-      ∙ sym (ap (part_of (laid_object sp)) f.is ∙ ap (λ u. laid_out sp (content_of u)) w.is)
+-- the texts that are written of a map are the texts of its value
+pub map-said : (s : SegmentState) (o : Located) (l : IsLocated s (ByHandle o.handle) o) (k v : ScalarKind)
+    → o.kind ≡ Map k v → (sp : Spelling) (n : ℕ) → AnswersWith s (λ d. count_at d (ByHandle o.handle)) n
+    → (d : Directory) → DenotesCurrent s.cut.bytes d
+    → parts_until (pair_part sp k v d (ByHandle o.handle)) n ≡ laid_at sp d (ByHandle o.handle)
+map-said s o l k v e sp n a d st =
+    let f = here s o l d st in let many = rw (f.is, count_at) at (a.answers d st) in
+    let said : parts_until (λ j. part_of (pair_text sp k v j) (slice_get (pairs_at d (ByHandle o.handle)) j)) n
+    ≡ laid_at sp d (ByHandle o.handle) =
+    rw (f.is, pairs_at, many) (pairs-laid sp k v f.object.value (sym (kind-here s o l d st) ∙ e)) in said
 
 -- the first pair is the one from the least map key on
 pub first-of-kinds : {s : SegmentState} {o : Located} {k v : ScalarKind} → IsBound (Map k v) o s → (x : ScalarValue)
@@ -61,10 +51,8 @@ pub first-of-kinds : {s : SegmentState} {o : Located} {k v : ScalarKind} → IsB
     (pair_past false (value_of_scalar x) (pairs_at d (ByHandle o.handle)))) p
     → AnswersWith s (λ d. option_map (item_of_kinds k v)
     (option_map item_of (first_of (pairs_at d (ByHandle o.handle))))) p
-first-of-kinds {s} {o} {k} {v} b x kind_is value_is p a = first-walked s (ByHandle o.handle) k v (bound-map b) p
-    (subst (λ z. AnswersWith s (λ d. option_map (item_of_kinds k v) (pair_past false z (pairs_at d (ByHandle
-    o.handle)))) p) value_is (subst (λ j. AnswersWith s (λ d. option_map (item_of_kinds j v)
-    (pair_past false (value_of_scalar x) (pairs_at d (ByHandle o.handle)))) p) kind_is a))
+first-of-kinds {s} {o} {k} {v} b x kind_is value_is p a =
+    first-walked s (ByHandle o.handle) k v (bound-map b) p (rw (kind_is, value_is) at a)
 
 -- ---- a walk from pair to pair
 
@@ -86,7 +74,7 @@ module _ (s : SegmentState) (h : ℕ) (k v : ScalarKind) (i : ℕ) where
       → AnswersWith s (λ d. option_map (item_of_kinds (kind_of_scalar x) v)
       (pair_past above (value_of_scalar x) (pairs_at d (ByHandle h)))) (option_map item_seen r) → r ≡ p
       → IsNext s h k v p i
-  led above x r p to a is = subst (λ q. IsNext s h k v q i) is (to r a)
+  led above x r p to a is = rw is at (to r a)
 
   -- the map key of a pair leads to the next one
   pub leads-next : (x y : ScalarValue) → IsNext s h k v (Some (x, y)) i → LeadsTo s h k v true x (i + 1)

@@ -1,6 +1,6 @@
 -- Elements that are read where they stand in the image.
-use Rattle.std.proofs.Common.{◌≡◌, refl, sym, ap, subst, ◌∙◌, ℕ, zero, suc, ◌+◌, ◌*◌, ◌<◌, ◌≤◌, ◌⊎◌, inl, inr, ℤ, true}
-use Rattle.std.proofs.Common.{Bool, Some, None, Option, Result, Ok, Err, List, [], ◌∷◌, ◌++◌, length, map, set, take}
+use Rattle.std.proofs.Common.{◌≡◌, refl, sym, ap, subst, ◌∙◌, ℕ, zero, suc, ◌+◌, ◌*◌, ◌<◌, ◌≤◌, inl, inr, ℤ, true}
+use Rattle.std.proofs.Common.{Bool, Some, Ok, Err, List, [], ◌∷◌, ◌++◌, length, map, set, take}
 use Rattle.std.proofs.Math.Nat.{eq_of_mul-eq-mul_left, lt_of_mul-lt-mul_left, mul-le-mul_left, mul-lt-mul_of_pos_left}
 use Rattle.std.proofs.lemmas.List.{map-append, take-append-drop, take_all, take_more, take_more_set}
 use Rattle.std.proofs.{Common.IsTrue, Common.arith, Math.Seq.drop-append-add, Math.Seq.drop-nil, lemmas.Bool.and_from}
@@ -13,22 +13,22 @@ use Rattle.raw_region.proofs.{Laws.part-part, Laws.read-part, Facts.first}
 use Rattle.block_tags.specs.Format.{is_legal_size}
 use Rattle.best_fit.specs.Extents.{handle, is_proper, proper_from}
 use Rattle.seg_types.specs.Kinds.{is_value, size_of, spelling}
-use Rattle.seg_types.specs.{declared.kinds.Kind.TheVariants.Scalar, declared.kinds.Kind.TheVariants.Vector, Names.Key}
+use Rattle.seg_types.specs.{Names.Key}
 use Rattle.seg_types.specs.{declared.kinds.ScalarKind.ScalarKind, declared.refusals.Refusal.Refusal, Names.ByHandle}
-use Rattle.seg_types.specs.{declared.refusals.Refusal.TheVariants.NotFound, ScalarLaws.sizes}
+use Rattle.seg_types.specs.{ScalarLaws.sizes}
 use Rattle.seg_types.proofs.Laws.{all_spell_one}
 use Rattle.seg_vector.specs.Vector.{spelled}
 use Rattle.seg_vector.proofs.storage.TypedVectors.{all-at, flat-element, flat-long, flat-take, has-element}
-use Rattle.segment_manager.specs.Directory.{Directory, Value, Numbers, Elements, Object, kind_of, live, padded}
-use Rattle.segment_manager.specs.containers.ElementRuns.{IsRunOf, run_at, run_in, run_of, spelled_at, spelled_in}
+use Rattle.segment_manager.specs.Directory.{Directory, Value, Numbers, Elements, live, padded}
+use Rattle.segment_manager.specs.containers.ElementRuns.{IsRunOf, run_at, run_in, spelled_at, spelled_in}
 use Rattle.segment_manager.specs.State.{AnswersWith, IsSegment, SegmentState, DenotesCurrent}
 use Rattle.segment_manager.specs.{declared.containers.element_runs.ElementRun.ElementRun, Layout.head_len}
 use Rattle.segment_manager.specs.{declared.objects.object_ref.Object.Object as Located, objects.ElementLists.numbers_in}
 use Rattle.segment_manager.specs.objects.Located.{IsLocated}
-use Rattle.segment_manager.proofs.Laws.{IsSaidAt, said-at}
 use Rattle.segment_manager.proofs.ElementLaws.{AVector, AnArray, IsSliceOfKind, series-element, run-kind}
 use Rattle.segment_values.specs.Ranges.{AreSpelled, is_slice, slice_of}
-use Rattle.segment_values.proofs.ranges.Slices.{its-numbers, series-cases}
+use Rattle.segment_values.proofs.{LaidElements.here, LaidElements.kind-here, ranges.Slices.its-numbers}
+use Rattle.segment_values.proofs.ranges.Slices.{series-cases}
 
 -- ---- bytes that spell values
 
@@ -159,52 +159,40 @@ spelled-if k (Elements j zs t) (AVector e) = let same : j ≡ k = cc in ap (λ l
 spelled-if k v (AnArray e) = absurd (cc)
 spelled-if k v (AVector e) = absurd (cc)
 
-run-if : {k : ScalarKind} {why : Refusal} (o : Object) → IsSliceOfKind k o.value → Err why ≡ run_of o → ⊥
-run-if {k} {why} o series e = of-value (handle o.extent + head_len + padded (length o.name)) o.value series e
-  where
-    of-value : (at : ℕ) (v : Value) → IsSliceOfKind k v → Err why ≡ run_in at v → ⊥
-    of-value at (Numbers j zs) (AnArray e) f = cc
-    of-value at (Elements j zs t) (AVector e) f = cc
-    of-value at v (AnArray e) f = absurd (cc)
-    of-value at v (AVector e) f = absurd (cc)
+run-if : {k : ScalarKind} {why : Refusal} (at : ℕ) (v : Value) → IsSliceOfKind k v → Err why ≡ run_in at v → ⊥
+run-if at (Numbers j zs) (AnArray e) f = cc
+run-if at (Elements j zs t) (AVector e) f = cc
+run-if at v (AnArray e) f = absurd (cc)
+run-if at v (AVector e) f = absurd (cc)
 
 module _ (s : SegmentState) (o : Located) (k : ScalarKind) (located : IsLocated s (ByHandle o.handle) o)
     (series : is_slice k o.kind ≡ true) where
-  there : (d : Directory) → DenotesCurrent s.cut.bytes d → IsSaidAt d (ByHandle o.handle) o
-  there d st = said-at s (ByHandle o.handle) o located d st
+  of-kind : (d : Directory) (st : DenotesCurrent s.cut.bytes d)
+      → IsSliceOfKind k (here s o located d st).object.value
+  of-kind d st = elim (series-cases k o.kind series) [
+    | inl e ↦ AVector (sym (kind-here s o located d st) ∙ e)
+    | inr e ↦ AnArray (sym (kind-here s o located d st) ∙ e)
+  ]
 
-  of-kind : (d : Directory) (st : DenotesCurrent s.cut.bytes d) → IsSliceOfKind k (there d st).object.value
-  of-kind d st = cases (series-cases k o.kind series)
-    where
-      said : o.kind ≡ kind_of (there d st).object.value
-      said = ap (λ (l : Located). l.kind) (there d st).said
-
-      cases : (o.kind ≡ Vector k) ⊎ (o.kind ≡ Scalar k) → IsSliceOfKind k (there d st).object.value
-      cases (inl e) = AVector (sym said ∙ e)
-      cases (inr e) = AnArray (sym said ∙ e)
-
-  numbers-are : (d : Directory) (st : DenotesCurrent s.cut.bytes d) → slice_of o d ≡ numbers_in (there d
-      st).object.value
-  numbers-are d st = its-numbers d (ByHandle o.handle) o.kind (there d st).object (there d st).is
-      (sym (ap (λ (l : Located). l.kind) (there d st).said))
+  numbers-are : (d : Directory) (st : DenotesCurrent s.cut.bytes d)
+      → slice_of o d ≡ numbers_in (here s o located d st).object.value
+  numbers-are d st = let p = here s o located d st in
+      its-numbers d (ByHandle o.handle) o.kind p.object p.is (sym (kind-here s o located d st))
 
   -- the object has a run
   pub has-run : (why : Refusal) → AnswersWith s (λ d. run_at d (ByHandle o.handle)) (Err why) → (d : Directory)
       → DenotesCurrent s.cut.bytes d → ⊥
   has-run why a d st =
-      let said = there d st in
-      run-if said.object (of-kind d st) (a.answers d st
-      ∙ ap (λ (r : Option Object). elim r as (λ _. Result ElementRun Refusal) [
-        | None ↦ Err NotFound
-        | Some p ↦ run_of p
-      ]) said.is)
+      let p = here s o located d st in let e = rw (p.is, run_at) at (a.answers d st) in
+      run-if (handle p.object.extent + head_len + padded (length p.object.name)) p.object.value (of-kind d st) e
 
   module _ (run : ElementRun) (place : AnswersWith s (λ d. run_at d (ByHandle o.handle)) (Ok run))
       (bytes : IsRunOf s (ByHandle o.handle) run) where
     -- the run has the kind, and the number of elements
     run-said : (d : Directory) → DenotesCurrent s.cut.bytes d → (run.kind ≡ k) × (run.count ≡ length (slice_of o d))
     run-said d st =
-        let said = run-kind s (ByHandle o.handle) run k place d st (there d st).object (there d st).is (of-kind d st) in
+        let p = here s o located d st in
+        let said = run-kind s (ByHandle o.handle) run k place d st p.object p.is (of-kind d st) in
         (said.0, said.1 ∙ ap (λ zs. length zs) (sym (numbers-are d st)))
 
     -- it has as many elements as the object
@@ -218,17 +206,17 @@ module _ (s : SegmentState) (o : Located) (k : ScalarKind) (located : IsLocated 
     spelled-is : (d : Directory) (st : DenotesCurrent s.cut.bytes d)
         → spelled_at d (ByHandle o.handle) ≡ spelled k (slice_of o d)
     spelled-is d st =
-        ap (λ (q : Option Object). elim q as (λ _. List ℕ) [ None ↦ [] | Some p ↦ spelled_in p.value ]) (there d st).is
-        ∙ spelled-if k (there d st).object.value (of-kind d st) ∙ ap (spelled k) (sym (numbers-are d st))
+        let p = here s o located d st in
+        rw (p.is, spelled_at, numbers-are d st) (spelled-if k p.object.value (of-kind d st))
 
     -- its bytes encode the elements of the object
     spells : (d : Directory) → DenotesCurrent s.cut.bytes d
         → AreSpelled k (slice_of o d) (part s.cut.bytes run.offset (size_of k * run.count))
     spells d st =
         let values : IsTrue (list_all (is_value k) (slice_of o d)) =
+        let p = here s o located d st in
         all-from (is_value k) (slice_of o d) (λ i z e. (series-element s (ByHandle o.handle) run k bytes d st
-        (there d st).object (there d st).is (of-kind d st) i (ap (λ zs. slice_get zs i) (sym (numbers-are d st))
-        ∙ e)).value) in
+        p.object p.is (of-kind d st) i (ap (λ zs. slice_get zs i) (sym (numbers-are d st)) ∙ e)).value) in
         let n : length (spelled_at d (ByHandle o.handle)) ≡ size_of k * run.count =
         ap (λ bs. length bs) (spelled-is d st) ∙ spelled-length k (slice_of o d) values
         ∙ ap (λ m. size_of k * m) (sym (run-said d st).1) in
@@ -245,10 +233,17 @@ module _ (s : SegmentState) (o : Located) (k : ScalarKind) (located : IsLocated 
           run.count fits)
           in omega (arith, all)
 
-      -- the bytes of this many elements from an index on lie in the image, which is not too long
-      pub range-inside : IsSegment s.cut.bytes
-          → (run.offset + size_of k * first + size_of k * n ≤ length s.cut.bytes) × (length s.cut.bytes ≤ 1073741824)
-      range-inside g = let in_image = inside g.0 g.1 in (omega (arith, both, in_image), segment-short s.cut.bytes g)
+      -- the bytes of this many elements from an index on lie in the image, so a call that finds them adds up no more
+      pub range-small : IsSegment s.cut.bytes → (size : ℕ) → size ≡ size_of k
+          → (size * first ≤ 1073741824) × (run.offset + size * first ≤ 1073741824) × (size * n ≤ 1073741824)
+      range-small g size same =
+          let within = inside g.0 g.1 in let short = segment-short s.cut.bytes g in
+          rw same (
+            omega (arith, both, within, short),
+            omega (arith, both, within, short),
+            omega
+                (arith, both, within, short),
+          )
 
       -- they encode these elements
       pub range-bytes : (from : List ℕ) → from ≡ part s.cut.bytes (run.offset + size_of k * first) (size_of k * n)

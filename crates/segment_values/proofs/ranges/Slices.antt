@@ -1,7 +1,6 @@
 -- Values that are arrays or vectors of scalars of a kind: what they list.
-use Rattle.std.proofs.Common.{◌≡◌, refl, sym, ap, ◌∙◌, ℤ, Bool, true, false, ◌||◌, ◌⊎◌, inl, inr, Some, None}
-use Rattle.std.proofs.{Common.Option, Common.List, lemmas.Bool.eq-eqb, lemmas.Bool.eqb-true, lemmas.Option.same_Some}
-use Rattle.std.proofs.Common.{[], if◌then◌else◌}
+use Rattle.std.proofs.Common.{◌≡◌, refl, sym, ap, ◌∙◌, Bool, true, false, ◌||◌, ◌⊎◌, inl, inr, Some}
+use Rattle.std.proofs.{lemmas.Bool.eq-eqb, lemmas.Bool.eqb-true, lemmas.Option.same_Some}
 use Rattle.seg_types.specs.declared.kinds.Kind.TheVariants.{Scalar, Vector}
 use Rattle.seg_types.specs.Kinds.{code_of, kind_of_code, same_kind}
 use Rattle.seg_types.specs.{declared.kinds.Kind.Kind, declared.kinds.ScalarKind.ScalarKind, Names.Key}
@@ -31,9 +30,4 @@ series-cases k kind r = cases-if (same_kind (Vector k) kind) refl r
 -- the numbers of the object of a key
 pub its-numbers : (d : Directory) (key : Key) (kind : Kind) (o : Object) → object_at d key ≡ Some o
     → kind_of o.value ≡ kind → list_at numbers_in d key kind ≡ numbers_in o.value
-its-numbers d key kind o e f =
-    ap (λ (r : Option Object). elim r as (λ _. List ℤ) [
-      | None ↦ []
-      | Some o ↦ if same_kind kind (kind_of o.value) then numbers_in o.value else []
-    ]) e
-    ∙ ap (λ b. if b then numbers_in o.value else []) (of-same kind (kind_of o.value) (sym f))
+its-numbers d key kind o e f = rw (e, list_at, of-same kind (kind_of o.value) (sym f))

@@ -1,13 +1,13 @@
 -- The nodes that are listed ahead are the nodes of the first pairs from a bound on.
 use Rattle.std.proofs.Common.{◌≡◌, refl, sym, ap, ◌∙◌, ℕ, suc, ◌≤◌, ℤ, Bool, true, false, Option, Some, None, Ok, Err}
 use Rattle.std.proofs.Common.{List, [], ◌∷◌, ◌++◌, length, arith, subst, take, drop, min, map, filter, Result}
-use Rattle.std.proofs.Common.{if◌then◌else◌}
+use Rattle.std.proofs.Common.{inl, inr}
 use Rattle.std.proofs.lemmas.List.{length-map, length-take, take-append-le, take_min}
 use Rattle.std.proofs.Math.Seq.{take-append_seam}
-use Rattle.std.proofs.lemmas.Bool.{eq-eqb, or_left, or_right}
+use Rattle.std.proofs.lemmas.Bool.{cases_Bool, eq-eqb, or_left, or_right}
 use Rattle.std.proofs.lemmas.Option.{same_Some}
 use Rattle.std.specs.List.{AllByRecursion}
-use Rattle.std.specs.Prelude.{IfSome, int_lt, nat_eq, option_map, slice_get}
+use Rattle.std.specs.Prelude.{int_lt, nat_eq, option_map, slice_get}
 use Rattle.std.specs.Range.Bound.{bound_map}
 use Rattle.std.specs.declared.ops.Bound.{Bound}
 use Rattle.std.specs.declared.ops.Bound.TheVariants.{Included, Excluded, Unbounded}
@@ -47,18 +47,14 @@ first-ahead node rest (q ∷ qs) e = record { pair = q; others = qs; is = refl; 
 among : (t : NumberPair → Bool) (ps : List NumberPair) (q : NumberPair) (rest : List NumberPair)
     → filter t ps ≡ q ∷ rest → is_in (pair_node q) (nodes_of_pairs ps) ≡ true
 among t [] q rest e = absurd (cc)
-among t (p ∷ ps) q rest e = by_cases (λ h. among t ps q rest h) (t p) refl
-  where
-    by_cases : (filter t ps ≡ q ∷ rest → is_in (pair_node q) (nodes_of_pairs ps) ≡ true) → (b : Bool) → t p ≡ b
-        → is_in (pair_node q) (nodes_of_pairs (p ∷ ps)) ≡ true
-    by_cases next true f =
-        let two : p ∷ filter t ps ≡ q ∷ rest = sym (ap (λ (b : Bool). if b then p ∷ filter t ps else filter t ps) f)
-        ∙ e in
-        let same : p ≡ q = cc in
-        or_left (nat_eq (pair_node q) (pair_node p)) (is_in (pair_node q) (nodes_of_pairs ps))
-        (eq-eqb (pair_node q) (pair_node p) (sym (ap pair_node same)))
-    by_cases next false f = or_right (nat_eq (pair_node q) (pair_node p)) (is_in (pair_node q) (nodes_of_pairs ps))
-        (next (sym (ap (λ (b : Bool). if b then p ∷ filter t ps else filter t ps) f) ∙ e))
+among t (p ∷ ps) q rest e = elim (cases_Bool (t p)) [
+  | inl f ↦
+      let two = rw f at e in let same : p ≡ q = cc in
+      or_left (nat_eq (pair_node q) (pair_node p)) (is_in (pair_node q) (nodes_of_pairs ps))
+      (eq-eqb (pair_node q) (pair_node p) (sym (ap pair_node same)))
+  | inr f ↦ or_right (nat_eq (pair_node q) (pair_node p)) (is_in (pair_node q) (nodes_of_pairs ps))
+      (among t ps q rest (rw f at e))
+]
 
 -- the first places of a list with the nodes of pairs
 listed-first : (qs : List NumberPair) (list : List ℕ) (count : ℕ) → count ≡ min (length list) (length qs)
@@ -118,21 +114,17 @@ module _ (s : SegmentState) (key : Key) (k v : ScalarKind) where
     abbrev Probes : Type 0
     Probes = IsProbe (bound_map kw start) from.1 (kw from.0)
 
-    probes : (b : Bound K) (past : Bool) → start ≡ b → from ≡ (a, past) → IsProbe (bound_map kw b) past (kw a) → Probes
-    probes b past e f h = subst (λ (c : Bound K). IsProbe (bound_map kw c) from.1 (kw from.0)) (sym e)
-        (subst (λ (g : K × Bool). IsProbe (bound_map kw b) g.1 (kw g.0)) (sym f) h)
-
     -- a bound that the range contains
     pub probes-included : start ≡ Included a → from ≡ (a, false) → Probes
-    probes-included e f = probes (Included a) false e f (included (kw a))
+    probes-included e f = rw (e, f) (included (kw a))
 
     -- a bound that the range does not contain
     pub probes-excluded : start ≡ Excluded a → from ≡ (a, true) → Probes
-    probes-excluded e f = probes (Excluded a) true e f (excluded (kw a))
+    probes-excluded e f = rw (e, f) (excluded (kw a))
 
     -- no bound: from the least number of the kind on
     pub probes-unbounded : start ≡ Unbounded → from ≡ (a, false) → kw a ≡ lowest k → Probes
-    probes-unbounded e f least = probes Unbounded false e f (unbounded (kw a) least)
+    probes-unbounded e f least = rw (e, f) (unbounded (kw a) least)
 
   module _ (start : Bound ℤ) where
     -- the nodes that a call listed
@@ -191,8 +183,7 @@ module _ (s : SegmentState) (key : Key) (k v : ScalarKind) where
           → FirstAhead node (drop 1 nodes) (pairs_from start (pairs_at_kinds d key k v))
       first-of d l =
           let qs = pairs_from start (pairs_at_kinds d key k v) in
-          first-ahead node (drop 1 nodes) qs (subst (λ ns. ns ≡ nodes_of_pairs (take (length ns) qs))
-          (begun nodes node is) (ahead.answers d l))
+          first-ahead node (drop 1 nodes) qs (rw (begun nodes node is) at (ahead.answers d l))
 
       -- a pair of the map has it
       pub first-node : HasPairNode s key k v node
@@ -236,8 +227,3 @@ module _ (s : SegmentState) (key : Key) (k v : ScalarKind) where
               (map-rises d key k v s.cut.bytes l.denotes) f.is in
               f.behind ∙ ap (λ qs. nodes_of_pairs (take (length (drop 1 nodes)) qs)) (sym others);
         }
-
-        pub rests-ahead : (o : Option (A × B)) → r ≡ o
-            → IfSome o (λ pair. AreAhead s key k v (Excluded (kw pair.0)) (drop 1 nodes))
-        rests-ahead None was = tt
-        rests-ahead (Some pair) was = rest-ahead pair was

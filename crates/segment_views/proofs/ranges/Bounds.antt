@@ -1,10 +1,12 @@
 -- The pairs between two bounds of a list whose keys rise: the first of them and those after it, the last and those
 -- before it.
 use Rattle.std.proofs.Common.{◌≡◌, refl, sym, ap, subst, ◌∙◌, ◌≤◌, ℤ, Bool, true, false, ◌&&◌, not, Option, Some, None}
-use Rattle.std.proofs.Common.{List, [], ◌∷◌, ◌++◌, filter, length, map, arith, if◌then◌else◌}
+use Rattle.std.proofs.Common.{List, [], ◌∷◌, ◌++◌, filter, length, map, arith, if◌then◌else◌, inl, inr}
 use Rattle.std.specs.Prelude.{find, int_le, int_lt, option_map, reverse, slice_get}
-use Rattle.std.proofs.lemmas.List.{reverse-append, reverse-reverse}
-use Rattle.std.proofs.lemmas.List.Elements.{filter-append}
+use Rattle.std.proofs.lemmas.Bool.{and_from, and_parts, and_right, cases_Bool}
+use Rattle.std.proofs.lemmas.List.{append-nil, map-append, reverse-append, reverse-reverse}
+use Rattle.std.proofs.lemmas.List.Elements.{filter-append, filter_agree}
+use Rattle.std.proofs.Math.Bool.{and-true, and_comm, not-not}
 use Rattle.std.proofs.lemmas.Option.{same_Some}
 use Rattle.std.specs.List.{last_or}
 use Rattle.std.specs.declared.ops.Bound.{Bound}
@@ -17,55 +19,10 @@ use Rattle.segment_manager.specs.containers.Maps.{pair_at_end, pair_below, pair_
 use Rattle.segment_manager.specs.containers.Walks.{first_of}
 use Rattle.segment_views.specs.Ranged.{is_between, is_from, is_up_to, last_between, pairs_from, range_of}
 
--- ---- truths
-
-left-true : (a b : Bool) → (a && b) ≡ true → a ≡ true
-left-true true b e = refl
-left-true false b e = absurd (cc)
-
-right-true : (a b : Bool) → (a && b) ≡ true → b ≡ true
-right-true true b e = e
-right-true false b e = absurd (cc)
-
-both-true : (a b : Bool) → a ≡ true → b ≡ true → (a && b) ≡ true
-both-true a b e f = (λ i. e i && b) ∙ f
-
-right-false : (a b : Bool) → b ≡ false → (a && b) ≡ false
-right-false true b e = e
-right-false false b e = refl
-
-and-true : (a : Bool) → (a && true) ≡ a
-and-true true = refl
-and-true false = refl
-
-exchanged : (a b : Bool) → (a && b) ≡ (b && a)
-exchanged true b = sym (and-true b)
-exchanged false true = refl
-exchanged false false = refl
-
 -- ---- pairs that pass a test, as keys and values
 
 abbrev items : (NumberPair → Bool) → List NumberPair → List (ℤ × ℤ)
 items t ps = map item_of (filter t ps)
-
-abbrev kept_if : Bool → NumberPair → List NumberPair → List NumberPair
-kept_if b p ps = if b then p ∷ ps else ps
-
-filter-if : (t : NumberPair → Bool) (p : NumberPair) (qs : List NumberPair) (b : Bool) → t p ≡ b
-    → filter t (p ∷ qs) ≡ kept_if b p (filter t qs)
-filter-if t p qs b e = ap (λ (b : Bool). kept_if b p (filter t qs)) e
-
-abbrev one_more : Bool → NumberPair → List (ℤ × ℤ) → List (ℤ × ℤ)
-one_more b p xs = if b then item_of p ∷ xs else xs
-
-items-if : (t : NumberPair → Bool) (p : NumberPair) (qs : List NumberPair) (b : Bool) → t p ≡ b
-    → items t (p ∷ qs) ≡ one_more b p (items t qs)
-items-if t p qs true e = ap (map item_of) (filter-if t p qs true e)
-items-if t p qs false e = ap (map item_of) (filter-if t p qs false e)
-
-first-if : (t : NumberPair → Bool) (p : NumberPair) (qs : List NumberPair) (b : Bool) → t p ≡ b
-    → slice_get (items t (p ∷ qs)) 0 ≡ slice_get (one_more b p (items t qs)) 0
-first-if t p qs b e = ap (λ (xs : List (ℤ × ℤ)). slice_get xs 0) (items-if t p qs b e)
 
 -- a list without a first element is empty
 pub range-empty : {A : Type 0} (xs : List A) → slice_get xs 0 ≡ None → xs ≡ []
@@ -82,32 +39,28 @@ admitted far (Some (x, y)) = if far x then Some (x, y) else None
 module _ (less : ℤ → ℤ → Bool) (transitive : (x y z : ℤ) → less x y ≡ true → less y z ≡ true → less x z ≡ true) where
   -- the key after another is above it, and one may be left out
   next-above : (p q : NumberPair) (qs : List NumberPair) → is_rising less (p ∷ q ∷ qs) ≡ true → less p.key q.key ≡ true
-  next-above p q qs r = left-true (less p.key q.key) (is_rising less (q ∷ qs)) r
+  next-above p q qs r = (and_parts (less p.key q.key) (is_rising less (q ∷ qs)) r).0
 
   rest-rises : (p : NumberPair) (qs : List NumberPair) → is_rising less (p ∷ qs) ≡ true → is_rising less qs ≡ true
   rest-rises p [] r = refl
-  rest-rises p (q ∷ qs) r = right-true (less p.key q.key) (is_rising less (q ∷ qs)) r
+  rest-rises p (q ∷ qs) r = (and_parts (less p.key q.key) (is_rising less (q ∷ qs)) r).1
 
   skip-rises : (p q : NumberPair) (qs : List NumberPair) → is_rising less (p ∷ q ∷ qs) ≡ true
       → is_rising less (p ∷ qs) ≡ true
   skip-rises p q [] r = refl
   skip-rises p q (s ∷ qs) r =
       let rest = rest-rises p (q ∷ s ∷ qs) r in
-      both-true (less p.key s.key) (is_rising less (s ∷ qs))
+      and_from (less p.key s.key) (is_rising less (s ∷ qs))
       (transitive p.key q.key s.key (next-above p q (s ∷ qs) r) (next-above q s qs rest)) (rest-rises q (s ∷ qs) rest)
 
   -- a pair that passes after another is above it
   found-above : (t : NumberPair → Bool) (p : NumberPair) (qs : List NumberPair) (q : NumberPair) (rest : List
       NumberPair) → is_rising less (p ∷ qs) ≡ true → filter t qs ≡ q ∷ rest → less p.key q.key ≡ true
   found-above t p [] q rest r e = absurd (cc)
-  found-above t p (s ∷ qs) q rest r e = by_cases (λ h. found-above t p qs q rest (skip-rises p s qs r) h) (t s) refl
-    where
-      by_cases : (filter t qs ≡ q ∷ rest → less p.key q.key ≡ true) → (b : Bool) → t s ≡ b → less p.key q.key ≡ true
-      by_cases next true f =
-          let two : s ∷ filter t qs ≡ q ∷ rest = sym (filter-if t s qs true f) ∙ e in
-          let same : s ≡ q = cc in
-          subst (λ (z : NumberPair). less p.key z.key ≡ true) same (next-above p s qs r)
-      by_cases next false f = next (sym (filter-if t s qs false f) ∙ e)
+  found-above t p (s ∷ qs) q rest r e = elim (cases_Bool (t s)) [
+    | inl f ↦ let two = rw f at e in let same : s ≡ q = cc in rw (← same) (next-above p s qs r)
+    | inr f ↦ found-above t p qs q rest (skip-rises p s qs r) (rw f at e)
+  ]
 
   -- A test, and one for each key: of the key's pair it is false, after a pair that passes it is the test, and before
   -- the pair it is false. So after the first pair that passes there are those that pass the test of its key.
@@ -118,25 +71,19 @@ module _ (less : ℤ → ℤ → Bool) (transitive : (x y z : ℤ) → less x y 
         → filter t qs ≡ filter (u p.key) qs
     same-behind p [] f r = refl
     same-behind p (q ∷ qs) f r =
-        ap (λ (ps : List NumberPair). kept_if (t q) q ps) (same-behind p qs f (skip-rises p q qs r))
-        ∙ ap (λ (b : Bool). kept_if b q (filter (u p.key) qs)) (behind p q (next-above p q qs r) f)
+        rw (same-behind p qs f (skip-rises p q qs r), behind p q (next-above p q qs r) f)
 
     others : (ps : List NumberPair) (q : NumberPair) (rest : List NumberPair) → is_rising less ps ≡ true
         → filter t ps ≡ q ∷ rest → filter (u q.key) ps ≡ rest
     others [] q rest r e = absurd (cc)
-    others (p ∷ qs) q rest r e = by_cases (λ h. others qs q rest (rest-rises p qs r) h) (t p) refl
-      where
-        by_cases : (filter t qs ≡ q ∷ rest → filter (u q.key) qs ≡ rest) → (b : Bool) → t p ≡ b
-            → filter (u q.key) (p ∷ qs) ≡ rest
-        by_cases next true f =
-            let two : p ∷ filter t qs ≡ q ∷ rest = sym (filter-if t p qs true f) ∙ e in
-            let same : p ≡ q = cc in
-            let behind_it : filter t qs ≡ rest = cc in
-            subst (λ (z : NumberPair). filter (u z.key) (p ∷ qs) ≡ rest) same
-            (filter-if (u p.key) p qs false (itself p) ∙ sym (same-behind p qs f r) ∙ behind_it)
-        by_cases next false f =
-            let there : filter t qs ≡ q ∷ rest = sym (filter-if t p qs false f) ∙ e in
-            filter-if (u q.key) p qs false (before q.key p (found-above t p qs q rest r there)) ∙ next there
+    others (p ∷ qs) q rest r e = elim (cases_Bool (t p)) [
+      | inl f ↦
+          let two = rw f at e in let same : p ≡ q = cc in let all : filter t qs ≡ rest = cc in
+          subst (λ (z : NumberPair). filter (u z.key) (p ∷ qs) ≡ rest) same (rw (itself p, ← same-behind p qs f r) all)
+      | inr f ↦
+          let later = rw f at e in
+          rw (before q.key p (found-above t p qs q rest r later)) (others qs q rest (rest-rises p qs r) later)
+    ]
 
     begins : (ps : List NumberPair) (x y : ℤ) → is_rising less ps ≡ true → slice_get (items t ps) 0 ≡ Some (x, y)
         → items t ps ≡ (x, y) ∷ items (u x) ps
@@ -159,27 +106,19 @@ module _ (less : ℤ → ℤ → Bool) (transitive : (x y z : ℤ) → less x y 
         → items t qs ≡ []
     none-behind p [] f r = refl
     none-behind p (q ∷ qs) f r =
-        items-if t q qs false (both q ∙ right-false (a q) (far q.key) (past p q (next-above p q qs r) f))
-        ∙ none-behind p qs f (skip-rises p q qs r)
+        rw (both q, and_right (a q) (far q.key) (past p q (next-above p q qs r) f))
+        (none-behind p qs f (skip-rises p q qs r))
 
     admits : (ps : List NumberPair) → is_rising less ps ≡ true
         → slice_get (items t ps) 0 ≡ admitted far (slice_get (items a ps) 0)
     admits [] r = refl
-    admits (p ∷ qs) r = by_cases (admits qs (rest-rises p qs r)) (a p) (far p.key) refl refl
-      where
-        by_cases : slice_get (items t qs) 0 ≡ admitted far (slice_get (items a qs) 0) → (b c : Bool) → a p ≡ b
-            → far p.key ≡ c → slice_get (items t (p ∷ qs)) 0 ≡ admitted far (slice_get (items a (p ∷ qs)) 0)
-        by_cases next true true f g =
-            first-if t p qs true (both p ∙ both-true (a p) (far p.key) f g)
-            ∙ sym (ap (λ (b : Bool). let o : Option (ℤ × ℤ) = if b then Some (p.key, p.value) else None in o) g)
-            ∙ sym (ap (admitted far) (first-if a p qs true f))
-        by_cases next true false f g =
-            first-if t p qs false (both p ∙ right-false (a p) (far p.key) g)
-            ∙ ap (λ (xs : List (ℤ × ℤ)). slice_get xs 0) (none-behind p qs g r)
-            ∙ sym (ap (λ (b : Bool). let o : Option (ℤ × ℤ) = if b then Some (p.key, p.value) else None in o) g)
-            ∙ sym (ap (admitted far) (first-if a p qs true f))
-        by_cases next false c f g = first-if t p qs false (both p ∙ (λ i. f i && far p.key)) ∙ next
-            ∙ sym (ap (admitted far) (first-if a p qs false f))
+    admits (p ∷ qs) r = rw (both p) (elim (cases_Bool (a p)) [
+      | inl f ↦ elim (cases_Bool (far p.key)) [
+        | inl g ↦ rw (f, g)
+        | inr g ↦ rw (f, g, none-behind p qs g r)
+      ]
+      | inr f ↦ rw f (admits qs (rest-rises p qs r))
+    ])
 
 -- ---- whole numbers
 
@@ -223,47 +162,35 @@ before-start Unbounded x y l f = absurd (cc)
 pub reverse-more : {A : Type 0} (x : A) (xs : List A) → reverse (x ∷ xs) ≡ reverse xs ++ x ∷ []
 reverse-more x xs = reverse-append (x ∷ []) xs
 
-mapped-on : {A B : Type 0} (f : A → B) (xs ys : List A) → map f (xs ++ ys) ≡ map f xs ++ map f ys
-mapped-on f [] ys = refl
-mapped-on f (x ∷ xs) ys = ap (λ zs. f x ∷ zs) (mapped-on f xs ys)
-
-nothing-behind : {A : Type 0} (xs : List A) → xs ++ [] ≡ xs
-nothing-behind [] = refl
-nothing-behind (x ∷ xs) = ap (λ ys. x ∷ ys) (nothing-behind xs)
-
 items-on : (t : NumberPair → Bool) (ps qs : List NumberPair) → items t (ps ++ qs) ≡ items t ps ++ items t qs
-items-on t ps qs = ap (map item_of) (filter-append t ps qs) ∙ mapped-on item_of (filter t ps) (filter t qs)
+items-on t ps qs = ap (map item_of) (filter-append t ps qs) ∙ map-append item_of (filter t ps) (filter t qs)
 
 items-reversed : (t : NumberPair → Bool) (ps : List NumberPair) → items t (reverse ps) ≡ reverse (items t ps)
 items-reversed t [] = refl
 items-reversed t (p ∷ qs) = ap (items t) (reverse-more p qs) ∙ items-on t (reverse qs) (p ∷ [])
-    ∙ ap (λ (xs : List (ℤ × ℤ)). xs ++ items t (p ∷ [])) (items-reversed t qs) ∙ by_cases (t p) refl
-  where
-    by_cases : (b : Bool) → t p ≡ b → reverse (items t qs) ++ items t (p ∷ []) ≡ reverse (items t (p ∷ qs))
-    by_cases true f = ap (λ (xs : List (ℤ × ℤ)). reverse (items t qs) ++ xs) (items-if t p [] true f)
-        ∙ sym (ap reverse (items-if t p qs true f) ∙ reverse-more (item_of p) (items t qs))
-    by_cases false f = ap (λ (xs : List (ℤ × ℤ)). reverse (items t qs) ++ xs) (items-if t p [] false f)
-        ∙ nothing-behind (reverse (items t qs)) ∙ sym (ap reverse (items-if t p qs false f))
+    ∙ ap (λ (xs : List (ℤ × ℤ)). xs ++ items t (p ∷ [])) (items-reversed t qs) ∙ elim (cases_Bool (t p)) [
+      | inl f ↦ rw f (sym (reverse-more (item_of p) (items t qs)))
+      | inr f ↦ rw f (append-nil (reverse (items t qs)))
+    ]
 
 snoc-falls : (rs : List NumberPair) (q p : NumberPair) → is_rising int_gt (rs ++ q ∷ []) ≡ true
     → int_lt p.key q.key ≡ true → is_rising int_gt ((rs ++ q ∷ []) ++ p ∷ []) ≡ true
-snoc-falls [] q p r l = both-true (int_gt q.key p.key) true l refl
-snoc-falls (s ∷ []) q p r l = both-true (int_gt s.key q.key) (int_gt q.key p.key
-    && true) (left-true (int_gt s.key q.key) true r) (both-true (int_gt q.key p.key) true l refl)
+snoc-falls [] q p r l = and_from (int_gt q.key p.key) true l refl
+snoc-falls (s ∷ []) q p r l = and_from (int_gt s.key q.key) (int_gt q.key p.key && true)
+    (and_parts (int_gt s.key q.key) true r).0 (and_from (int_gt q.key p.key) true l refl)
 snoc-falls (s ∷ t ∷ rs) q p r l =
-    both-true (int_gt s.key t.key) (is_rising int_gt (((t ∷ rs) ++ q ∷ []) ++ p ∷ []))
-    (left-true (int_gt s.key t.key) (is_rising int_gt ((t ∷ rs) ++ q ∷ [])) r)
-    (snoc-falls (t ∷ rs) q p (right-true (int_gt s.key t.key) (is_rising int_gt ((t ∷ rs) ++ q ∷ [])) r) l)
+    let both = and_parts (int_gt s.key t.key) (is_rising int_gt ((t ∷ rs) ++ q ∷ [])) r in
+    and_from (int_gt s.key t.key) (is_rising int_gt (((t ∷ rs) ++ q ∷ []) ++ p ∷ [])) both.0
+    (snoc-falls (t ∷ rs) q p both.1 l)
 
 falls : (ps : List NumberPair) → is_rising int_lt ps ≡ true → is_rising int_gt (reverse ps) ≡ true
 falls [] r = refl
 falls (p ∷ []) r = refl
 falls (p ∷ q ∷ qs) r =
-    let rest = subst (λ (rs : List NumberPair).
-    is_rising int_gt rs ≡ true) (reverse-more q qs)
-    (falls (q ∷ qs) (right-true (int_lt p.key q.key) (is_rising int_lt (q ∷ qs)) r)) in
-    ap (is_rising int_gt) (reverse-more p (q ∷ qs) ∙ ap (λ (rs : List NumberPair). rs ++ p ∷ []) (reverse-more q qs))
-    ∙ snoc-falls (reverse qs) q p rest (left-true (int_lt p.key q.key) (is_rising int_lt (q ∷ qs)) r)
+    let both = and_parts (int_lt p.key q.key) (is_rising int_lt (q ∷ qs)) r in
+    let rest = subst (λ (rs : List NumberPair). is_rising int_gt rs ≡ true) (reverse-more q qs) (falls (q ∷ qs) both.1)
+    in ap (is_rising int_gt) (reverse-more p (q ∷ qs) ∙ ap (λ (rs : List NumberPair). rs ++ p ∷ []) (reverse-more q qs))
+    ∙ snoc-falls (reverse qs) q p rest both.0
 
 -- ---- the first pair between bounds, and the others
 
@@ -273,7 +200,7 @@ module _ (start end : Bound ℤ) where
 
   behind : (p q : NumberPair) → int_lt p.key q.key ≡ true → is_between start end p ≡ true
       → is_between start end q ≡ is_between (Excluded p.key) end q
-  behind p q l f = (λ i. above-from start p.key q.key (left-true (is_from start p.key) (is_up_to end p.key) f) l i
+  behind p q l f = (λ i. above-from start p.key q.key (and_parts (is_from start p.key) (is_up_to end p.key) f).0 l i
       && is_up_to end q.key) ∙ sym (λ i. l i && is_up_to end q.key)
 
   before : (z : ℤ) (p : NumberPair) → int_lt p.key z ≡ true → is_between (Excluded z) end p ≡ false
@@ -307,10 +234,10 @@ ends-reversed : (start end : Bound ℤ) (ps : List NumberPair) (x y : ℤ) → i
     → range_of start end ps ≡ (x, y) ∷ range_of start (Excluded x) ps
 ends-reversed start end ps x y r e =
     begins int_gt greater (is_between start end) (λ z. is_between start (Excluded z)) (λ p.
-    right-false (is_from start p.key) (int_lt p.key p.key) (irreflexive p.key))
+    and_right (is_from start p.key) (int_lt p.key p.key) (irreflexive p.key))
     (λ p q l f. ap (λ b. is_from start q.key
-    && b) (below-end end q.key p.key (right-true (is_from start p.key) (is_up_to end p.key) f) l ∙ sym l))
-    (λ z p l. right-false (is_from start p.key) (int_lt p.key z) (not-above z p.key l)) ps x y r e
+    && b) (below-end end q.key p.key (and_parts (is_from start p.key) (is_up_to end p.key) f).1 l ∙ sym l))
+    (λ z p l. and_right (is_from start p.key) (int_lt p.key z) (not-above z p.key l)) ps x y r e
 
 -- the last pair of a range ends it
 pub range-ends : (start end : Bound ℤ) (ps : List NumberPair) (x y : ℤ) → is_rising int_lt ps ≡ true
@@ -333,7 +260,7 @@ range-none start end ps e =
 
 lower-only : (start end : Bound ℤ) (p : NumberPair)
     → is_between start end p ≡ (is_between Unbounded end p && is_from start p.key)
-lower-only start end p = exchanged (is_from start p.key) (is_up_to end p.key)
+lower-only start end p = and_comm (is_from start p.key) (is_up_to end p.key)
 
 -- it is the last that the upper bound admits, if the lower one does
 pub last-within : (start end : Bound ℤ) (ps : List NumberPair) → is_rising int_lt ps ≡ true
@@ -344,46 +271,26 @@ last-within start end ps r =
 
 -- ---- what the searches find
 
-abbrev one_or : Bool → NumberPair → Option (ℤ × ℤ) → Option (ℤ × ℤ)
-one_or b p o = if b then Some (item_of p) else o
-
-first-one : (t : NumberPair → Bool) (p : NumberPair) (qs : List NumberPair) (b : Bool) → t p ≡ b
-    → slice_get (items t (p ∷ qs)) 0 ≡ one_or b p (slice_get (items t qs) 0)
-first-one t p qs true e = first-if t p qs true e
-first-one t p qs false e = first-if t p qs false e
-
-found-one : (t : NumberPair → Bool) (p : NumberPair) (qs : List NumberPair) (b : Bool) → t p ≡ b
-    → option_map item_of (find t (p ∷ qs)) ≡ one_or b p (option_map item_of (find t qs))
-found-one t p qs true e = ap (λ (b : Bool). option_map item_of (if b then Some p else find t qs)) e
-found-one t p qs false e = ap (λ (b : Bool). option_map item_of (if b then Some p else find t qs)) e
-
 -- the first that passes a test is the first of those that pass it
 pub found-first : (s t : NumberPair → Bool) → ((p : NumberPair) → s p ≡ t p) → (ps : List NumberPair)
     → option_map item_of (find s ps) ≡ slice_get (items t ps) 0
 found-first s t same [] = refl
-found-first s t same (p ∷ qs) = found-one s p qs (t p) (same p) ∙ ap (one_or (t p) p) (found-first s t same qs)
-    ∙ sym (first-one t p qs (t p) refl)
+found-first s t same (p ∷ qs) = rw (same p) (elim (cases_Bool (t p)) [
+  | inl f ↦ rw f
+  | inr f ↦ rw f (found-first s t same qs)
+])
 
 not-below : (a z : ℤ) → not (int_lt z a) ≡ int_le a z
 not-below a z = grind arith
 
-not-not : (b : Bool) → not (not b) ≡ b
-not-not true = refl
-not-not false = refl
-
-filter-same : (s t : NumberPair → Bool) → ((p : NumberPair) → s p ≡ t p) → (ps : List NumberPair)
-    → filter s ps ≡ filter t ps
-filter-same s t same [] = refl
-filter-same s t same (p ∷ ps) = λ i. kept_if (same p i) p (filter-same s t same ps i)
-
 -- the pairs that are listed from a key on
 pub from-past : (a : ℤ) (ps : List NumberPair) → pairs_past int_lt false a ps ≡ pairs_from (Included a) ps
-from-past a = filter-same (λ p. not (int_lt p.key a)) (is_between (Included a) Unbounded) (λ p.
+from-past a = filter_agree (λ p. not (int_lt p.key a)) (is_between (Included a) Unbounded) (λ p.
     not-below a p.key ∙ sym (and-true (int_le a p.key)))
 
 -- the pairs that are listed above a key
 pub above-past : (a : ℤ) (ps : List NumberPair) → pairs_past int_lt true a ps ≡ pairs_from (Excluded a) ps
-above-past a = filter-same (λ p. not (not (int_lt a p.key))) (is_between (Excluded a) Unbounded) (λ p.
+above-past a = filter_agree (λ p. not (not (int_lt a p.key))) (is_between (Excluded a) Unbounded) (λ p.
     not-not (int_lt a p.key) ∙ sym (and-true (int_lt a p.key)))
 
 still : (x y z : ℤ) → int_lt x y ≡ true → int_lt x z ≡ false → int_lt y z ≡ false
@@ -391,11 +298,10 @@ still x y z l f = grind arith
 
 all-above : (z : ℤ) (p : NumberPair) (qs : List NumberPair) → is_rising int_lt (p ∷ qs) ≡ true
     → int_lt p.key z ≡ false → pairs_past int_lt false z (p ∷ qs) ≡ pairs_from Unbounded (p ∷ qs)
-all-above z p [] r f = filter-if (λ p. not (int_lt p.key z)) p [] true (ap not f)
+all-above z p [] r f = rw f
 all-above z p (q ∷ qs) r f =
-    filter-if (λ p. not (int_lt p.key z)) p (q ∷ qs) true (ap not f)
-    ∙ ap (λ (ps : List NumberPair). p ∷ ps) (all-above z q qs (rest-rises int_lt lesser p (q ∷ qs) r)
-    (still p.key q.key z (next-above int_lt lesser p q qs r) f))
+    rw f (ap (λ (ps : List NumberPair). p ∷ ps) (all-above z q qs (rest-rises int_lt lesser p (q ∷ qs) r)
+    (still p.key q.key z (next-above int_lt lesser p q qs r) f)))
 
 -- if the first pair from a key on is the first of all, all pairs are from the key on
 pub all-past : (z : ℤ) (ps : List NumberPair) → is_rising int_lt ps ≡ true
@@ -416,8 +322,7 @@ all-past z (p ∷ qs) r e = by_cases (int_lt p.key z) refl
     by_cases : (b : Bool) → int_lt p.key z ≡ b → pairs_past int_lt false z (p ∷ qs) ≡ pairs_from Unbounded (p ∷ qs)
     by_cases false f = all-above z p qs r f
     by_cases true f =
-        let later : option_map item_of (find passes qs) ≡ Some (p.key, p.value) =
-        sym (found-one passes p qs false (ap not f)) ∙ e in
+        let later : option_map item_of (find passes qs) ≡ Some (p.key, p.value) = rw f at e in
         let itself = found (filter passes qs) refl (sym (found-first passes passes (λ p. refl) qs) ∙ later) in
         let never = irreflexive p.key in absurd (cc)
 
@@ -465,9 +370,8 @@ end-ranged ps = ap (option_map item_of) (last_or-reversed None ps ∙ first_or-n
 -- a range has at most as many pairs as the list
 pub range-few : (start end : Bound ℤ) (ps : List NumberPair) → length (range_of start end ps) ≤ length ps
 range-few start end [] = omega arith
-range-few start end (p ∷ qs) = by_cases (range-few start end qs) (is_between start end p) refl
-  where
-    by_cases : length (range_of start end qs) ≤ length qs → (b : Bool) → is_between start end p ≡ b
-        → length (range_of start end (p ∷ qs)) ≤ length (p ∷ qs)
-    by_cases few true f = let e = ap length (items-if (is_between start end) p qs true f) in omega (arith, e, few)
-    by_cases few false f = let e = ap length (items-if (is_between start end) p qs false f) in omega (arith, e, few)
+range-few start end (p ∷ qs) =
+    let few = range-few start end qs in elim (cases_Bool (is_between start end p)) [
+      | inl f ↦ rw f (omega (arith, few))
+      | inr f ↦ rw f (omega (arith, few))
+    ]

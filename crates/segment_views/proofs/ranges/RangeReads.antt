@@ -1,6 +1,6 @@
 -- What is read of a map says of the pairs between two bounds.
 use Rattle.std.proofs.Common.{◌≡◌, refl, sym, ap, ◌∙◌, ℕ, ◌-◌, ◌≤◌, ℤ, Bool, true, false, Option, Some, None, Ok}
-use Rattle.std.proofs.Common.{List, [], ◌∷◌, ◌++◌, length, arith, subst, if◌then◌else◌}
+use Rattle.std.proofs.Common.{List, [], ◌∷◌, ◌++◌, length, arith, subst}
 use Rattle.std.specs.Bool.{then_some}
 use Rattle.std.specs.Prelude.{slice_get}
 use Rattle.std.proofs.lemmas.List.{length-append}
@@ -22,10 +22,8 @@ use Rattle.segment_views.proofs.ranges.Bounds.{range-none, range-within}
 -- a pair is admitted where its key is
 pub admitted-then : {K V : Type 0} (kw : K → ℤ) (vw : V → ℤ) (far : ℤ → Bool) (b : Bool) (p : K × V)
     → b ≡ far (kw p.0) → admitted far (Some (kw p.0, vw p.1)) ≡ numbers_in kw vw (then_some b p)
-admitted-then kw vw far true p e =
-    ap (λ (b : Bool). let o : Option (ℤ × ℤ) = if b then Some (kw p.0, vw p.1) else None in o) (sym e)
-admitted-then kw vw far false p e =
-    ap (λ (b : Bool). let o : Option (ℤ × ℤ) = if b then Some (kw p.0, vw p.1) else None in o) (sym e)
+admitted-then kw vw far true p e = rw (← e)
+admitted-then kw vw far false p e = rw (← e)
 
 module _ (s : SegmentState) (key : Key) (k v : ScalarKind) where
   -- what is read of a map is told of its pairs
@@ -53,52 +51,6 @@ module _ (s : SegmentState) (key : Key) (k v : ScalarKind) where
         ∙ sym (last-within start end (pairs_at_kinds d key k v) (map-rises d key k v s.cut.bytes h.denotes));
   }
 
-  -- the first pair is taken, and the others are left
-  module _ (start end : Bound ℤ) where
-    pub none-left : AnswersWith s (λ d. slice_get (range_of start end (pairs_at_kinds d key k v)) 0) None
-        → (d : Directory) → DenotesCurrent s.cut.bytes d → range_of start end (pairs_at_kinds d key k v) ≡ []
-    none-left a d h = range-empty (range_of start end (pairs_at_kinds d key k v)) (sym (a.answers d h))
-
-    pub others-left : (x y : ℤ) → AnswersWith s (λ d. slice_get (range_of start end (pairs_at_kinds d key k v)) 0)
-        (Some (x, y))
-        → (d : Directory) → DenotesCurrent s.cut.bytes d
-        → range_of start end (pairs_at_kinds d key k v) ≡ (x, y) ∷ range_of (Excluded x) end (pairs_at_kinds d key k v)
-    others-left x y a d h = range-begins start end (pairs_at_kinds d key k v) x y
-        (map-rises d key k v s.cut.bytes h.denotes) (sym (a.answers d h))
-
-    -- one fewer
-    pub fewer-left : (x y : ℤ) (left : ℕ)
-        → AnswersWith s (λ d. slice_get (range_of start end (pairs_at_kinds d key k v)) 0) (Some (x, y))
-        → ((d : Directory) → DenotesCurrent s.cut.bytes d
-        → length (range_of start end (pairs_at_kinds d key k v)) ≤ left)
-        → (d : Directory) → DenotesCurrent s.cut.bytes d
-        → length (range_of (Excluded x) end (pairs_at_kinds d key k v)) ≤ left - 1
-    fewer-left x y left a few d h = let e = ap length (others-left x y a d h) in let f = few d h in omega (arith, e, f)
-
-  -- the same of the last pair
-  module _ (start end : Bound ℤ) where
-    pub none-before : AnswersWith s (λ d. last_between start end (pairs_at_kinds d key k v)) None → (d : Directory)
-        → DenotesCurrent s.cut.bytes d → range_of start end (pairs_at_kinds d key k v) ≡ []
-    none-before a d h = range-none start end (pairs_at_kinds d key k v) (sym (a.answers d h))
-
-    pub others-before : (x y : ℤ) → AnswersWith s (λ d. last_between start end (pairs_at_kinds d key k v)) (Some (x, y))
-        → (d : Directory) → DenotesCurrent s.cut.bytes d
-        → range_of start end (pairs_at_kinds d key k v) ≡ range_of start (Excluded x) (pairs_at_kinds d key k v)
-        ++ (x, y) ∷ []
-    others-before x y a d h = range-ends start end (pairs_at_kinds d key k v) x y
-        (map-rises d key k v s.cut.bytes h.denotes) (sym (a.answers d h))
-
-    pub fewer-before : (x y : ℤ) (left : ℕ)
-        → AnswersWith s (λ d. last_between start end (pairs_at_kinds d key k v)) (Some (x, y))
-        → ((d : Directory) → DenotesCurrent s.cut.bytes d
-        → length (range_of start end (pairs_at_kinds d key k v)) ≤ left)
-        → (d : Directory) → DenotesCurrent s.cut.bytes d
-        → length (range_of start (Excluded x) (pairs_at_kinds d key k v)) ≤ left - 1
-    fewer-before x y left a few d h =
-        let e = ap length (others-before x y a d h)
-        ∙ length-append (range_of start (Excluded x) (pairs_at_kinds d key k v)) ((x, y) ∷ []) in let f = few d h
-        in omega (arith, e, f)
-
   -- there are no more than all
   pub all-few : (start end : Bound ℤ) (left : ℕ) → AnswersWith s (λ d. answer_of_map d key k v length) (Ok left)
       → (d : Directory) → DenotesCurrent s.cut.bytes d → length (range_of start end (pairs_at_kinds d key k v)) ≤ left
@@ -124,7 +76,9 @@ module _ {k v : ScalarKind} {w : PairWalk} {nodes : List ℕ} (is : IsPairWalk k
   finds-none e was a = subst (λ t. GoesOnPairs k v seen t None w) e (record {
     segment = refl;
     key = refl;
-    pairs = λ d h. let n = none-left w.segment w.key k v w.start w.end (subst HasFirst was a) d h in (n, n);
+    pairs = λ d h.
+        let none = rw was at (a.answers d h) in
+        let n = range-empty (range_of w.start w.end (pairs_at_kinds d w.key k v)) (sym none) in (n, n);
   })
 
   abbrev pub behind : A × B → PairWalk
@@ -136,20 +90,24 @@ module _ {k v : ScalarKind} {w : PairWalk} {nodes : List ℕ} (is : IsPairWalk k
     left = w.left - 1;
   }
 
+  -- the first pair is taken, and the others are left
+  others-left : {r : Option (A × B)} {pair : A × B} → r ≡ Some pair → HasFirst r → (d : Directory)
+      → DenotesCurrent w.segment.cut.bytes d → pairs_left k v d w ≡ seen pair ∷ pairs_left k v d (behind pair)
+  others-left {pair = pair} was a d h =
+      let first = rw was at (a.answers d h) in
+      range-begins w.start w.end (pairs_at_kinds d w.key k v) (kw pair.0) (vw pair.1)
+      (map-rises d w.key k v w.segment.cut.bytes h.denotes) (sym first)
+
   -- a first pair: the range goes on after it
   pub finds-one : {t : PairWalk} → w ≡ t → {r : Option (A × B)} {pair : A × B} → r ≡ Some pair → HasFirst r
       → GoesOnPairs k v seen t (Some pair) (behind pair)
-  finds-one e {pair = pair} was a = subst (λ t. GoesOnPairs k v seen t (Some pair) (behind pair)) e (record {
-    segment = refl;
-    key = refl;
-    pairs = λ d h. others-left w.segment w.key k v w.start w.end (kw pair.0) (vw pair.1) (subst HasFirst was a) d h;
-  })
+  finds-one e {pair = pair} was a = subst (λ t. GoesOnPairs k v seen t (Some pair) (behind pair)) e
+      (record { segment = refl; key = refl; pairs = λ d h. others-left was a d h })
 
   -- one pair less is left
   pub fewer : {r : Option (A × B)} {pair : A × B} → r ≡ Some pair → HasFirst r
       → (d : Directory) → DenotesCurrent w.segment.cut.bytes d → length (pairs_left k v d (behind pair)) ≤ w.left - 1
-  fewer {pair = pair} was a d h =
-      fewer-left w.segment w.key k v w.start w.end (kw pair.0) (vw pair.1) w.left (subst HasFirst was a) is.few d h
+  fewer was a d h = let e = ap length (others-left was a d h) in let f = is.few d h in omega (arith, e, f)
 
   -- ---- the same from the other end
 
@@ -163,7 +121,9 @@ module _ {k v : ScalarKind} {w : PairWalk} {nodes : List ℕ} (is : IsPairWalk k
   finds-none-back e was a = subst (λ t. GoesBackPairs k v seen t None t) e (record {
     segment = refl;
     key = refl;
-    pairs = λ d h. let n = none-before w.segment w.key k v w.start w.end (subst HasLast was a) d h in (n, n);
+    pairs = λ d h.
+        let none = rw was at (a.answers d h) in
+        let n = range-none w.start w.end (pairs_at_kinds d w.key k v) (sym none) in (n, n);
   })
 
   abbrev pub before : A × B → PairWalk
@@ -175,17 +135,23 @@ module _ {k v : ScalarKind} {w : PairWalk} {nodes : List ℕ} (is : IsPairWalk k
     left = w.left - 1;
   }
 
+  -- the last pair is taken, and the others are left
+  others-before : {r : Option (A × B)} {pair : A × B} → r ≡ Some pair → HasLast r → (d : Directory)
+      → DenotesCurrent w.segment.cut.bytes d → pairs_left k v d w ≡ pairs_left k v d (before pair) ++ seen pair ∷ []
+  others-before {pair = pair} was a d h =
+      let last = rw was at (a.answers d h) in
+      range-ends w.start w.end (pairs_at_kinds d w.key k v) (kw pair.0) (vw pair.1)
+      (map-rises d w.key k v w.segment.cut.bytes h.denotes) (sym last)
+
   -- a last pair: the range goes on before it
   pub finds-one-back : {t : PairWalk} → w ≡ t → {r : Option (A × B)} {pair : A × B} → r ≡ Some pair → HasLast r
       → GoesBackPairs k v seen t (Some pair) (before pair)
-  finds-one-back e {pair = pair} was a = subst (λ t. GoesBackPairs k v seen t (Some pair) (before pair)) e (record {
-    segment = refl;
-    key = refl;
-    pairs = λ d h. others-before w.segment w.key k v w.start w.end (kw pair.0) (vw pair.1) (subst HasLast was a) d h;
-  })
+  finds-one-back e {pair = pair} was a = subst (λ t. GoesBackPairs k v seen t (Some pair) (before pair)) e
+      (record { segment = refl; key = refl; pairs = λ d h. others-before was a d h })
 
   -- one pair less is left
   pub fewer-back : {r : Option (A × B)} {pair : A × B} → r ≡ Some pair → HasLast r
       → (d : Directory) → DenotesCurrent w.segment.cut.bytes d → length (pairs_left k v d (before pair)) ≤ w.left - 1
   fewer-back {pair = pair} was a d h =
-      fewer-before w.segment w.key k v w.start w.end (kw pair.0) (vw pair.1) w.left (subst HasLast was a) is.few d h
+      let e = ap length (others-before was a d h) ∙ length-append (pairs_left k v d (before pair)) (seen pair ∷ []) in
+      let f = is.few d h in omega (arith, e, f)

@@ -1,5 +1,5 @@
 -- Steps of an iterator over an array or a vector, by what the read of an element answered.
-use Rattle.std.proofs.Common.{◌≡◌, refl, sym, ap, subst, ◌∙◌, ℤ, ◌+◌, Option, Some, None, Result, Ok, Err}
+use Rattle.std.proofs.Common.{◌≡◌, refl, ap, ℤ, ◌+◌, Option, Some, None, Result, Ok, Err}
 use Rattle.std.specs.{Option.ok_or, Prelude.slice_get}
 use Rattle.seg_types.specs.declared.{kinds.Kind.Kind, refusals.Refusal.Refusal}
 use Rattle.seg_types.specs.declared.refusals.Refusal.TheVariants.{OutOfRange}
@@ -19,27 +19,23 @@ module _ {A : Type 0} (whole : A → ℤ) (kind : Kind) {w t : ElementWalk} (vie
   -- no element is there
   pub stops : {why : Refusal} → q ≡ Err why → AnswersWith w.segment (λ d. element_of (numbers_at d w.key kind) w.at)
       (whole_of whole q) → GoesOnElements (λ d key. numbers_at d key kind) whole t None t
-  stops {why} is a = subst (λ (u : ElementWalk). GoesOnElements (λ d key. numbers_at d key kind) whole u None u) view
-      (record {
-        segment = refl;
-        key = refl;
-        place = refl;
-        says = record {
-          answers = λ d h. none-read (slice_get (numbers_at d w.key kind) w.at) why
-              (sym (ap (whole_of whole) is) ∙ a.answers d h);
-        };
-      })
+  stops {why} is a = rw (← view) (record {
+    segment = refl;
+    key = refl;
+    place = refl;
+    says = record {
+      answers = λ d h. none-read (slice_get (numbers_at d w.key kind) w.at) why (rw is at (a.answers d h));
+    };
+  })
 
   -- the element comes, and the next is at the following place
   pub goes-on : {x : A} → q ≡ Ok x → AnswersWith w.segment (λ d. element_of (numbers_at d w.key kind) w.at)
       (whole_of whole q) → GoesOnElements (λ d key. numbers_at d key kind) whole t (Some x) (record w { at = w.at + 1 })
-  goes-on {x} is a = subst (λ (u : ElementWalk). GoesOnElements (λ d key. numbers_at d key kind) whole u (Some x)
-      (record w { at = w.at + 1 })) view (record {
-        segment = refl;
-        key = refl;
-        place = refl;
-        says = record {
-          answers = λ d h. one-read (slice_get (numbers_at d w.key kind) w.at) (whole x)
-              (sym (ap (whole_of whole) is) ∙ a.answers d h);
-        };
-      })
+  goes-on {x} is a = rw (← view) (record {
+    segment = refl;
+    key = refl;
+    place = refl;
+    says = record {
+      answers = λ d h. one-read (slice_get (numbers_at d w.key kind) w.at) (whole x) (rw is at (a.answers d h));
+    };
+  })

@@ -7,8 +7,8 @@ use Rattle.seg_types.specs.{Commands.Get, Kinds.code_of, Kinds.kind_of_code, Kin
 use Rattle.seg_types.specs.declared.kinds.Kind.TheVariants.{Strings as StringsKind}
 use Rattle.seg_types.specs.declared.refusals.Refusal.{Refusal}
 use Rattle.seg_types.specs.declared.refusals.Refusal.TheVariants.{NotFound, WrongKind}
-use Rattle.segment_manager.proofs.Laws.{code-read, got, text-read}
-use Rattle.segment_manager.specs.{Answers.Answer, Answers.TextElement, State.AnswersQueryOfKind, State.AnswersWith}
+use Rattle.segment_manager.proofs.Laws.{code-read, text-read}
+use Rattle.segment_manager.specs.{Answers.TextElement, State.AnswersQueryOfKind, State.AnswersWith}
 use Rattle.segment_manager.specs.{State.SegmentState, State.answer_of}
 use Rattle.segment_manager.specs.Directory.{Object, Texts, Value, kind_of, object_at}
 use Rattle.segment_manager.specs.containers.Contents.{sizes_of, sizes_of_kind}
@@ -17,28 +17,13 @@ use Rattle.segment_views.specs.Walked.{element_of}
 
 -- ---- one text
 
-abbrev mapped : {A B : Type 0} → (A → B) → Result A Refusal → Result B Refusal
-mapped f (Ok a) = Ok (f a)
-mapped f (Err why) = Err why
-
-answer-mapped : {A B : Type 0} (say : B → Answer) (f : A → B) (r : Result A Refusal)
-    → answer_of say (mapped f r) ≡ answer_of (λ a. say (f a)) r
-answer-mapped say f (Ok a) = refl
-answer-mapped say f (Err why) = refl
-
-got-mapped : {A B : Type 0} (f : A → B) (r : Result A Refusal) → got (mapped f r) ≡ element_of f r
-got-mapped f (Ok a) = refl
-got-mapped f (Err why) = refl
-
 module _ (s : SegmentState) (key : Key) where
   -- a text that is read is the list's
   pub text-item : (at : ℕ) {A : Type 0} (bytes : A → List ℕ) (r : Result A Refusal)
       → AnswersQueryOfKind s key StringsKind (Get key at) (answer_of (λ x. TextElement (bytes x)) r)
       → AnswersWith s (λ d. slice_get (texts_at d key) at) (element_of bytes r)
-  text-item at bytes r a = record {
-    answers = λ d h. sym (got-mapped bytes r)
-        ∙ text-read s.mode d key at (mapped bytes r) (answer-mapped TextElement bytes r ∙ a.answers d h);
-  }
+  text-item at bytes (Ok x) a = record { answers = λ d h. text-read s.mode d key at (Ok (bytes x)) (a.answers d h) }
+  text-item at bytes (Err why) a = record { answers = λ d h. text-read s.mode d key at (Err why) (a.answers d h) }
 
 -- ---- how many
 

@@ -1,6 +1,6 @@
 use Rattle.std.proofs.Common.{◌≡◌, ◌<◌, ◌≤◌, ℕ, Bool, true, false, ◌&&◌, List, length, nat_le, arith, ap, sym}
 use Rattle.std.proofs.Common.{◌∙◌, refl}
-use Rattle.std.proofs.lemmas.Grind.{common_steps}
+use Rattle.std.proofs.lemmas.{Bool.false_from_ne_true, Grind.common_steps}
 use Rattle.std.specs.Str.{IsUtf8, chars, is_utf8}
 use Rattle.std.specs.List.{list_all}
 use Rattle.std.specs.Prelude.{not}
@@ -14,15 +14,12 @@ none_of true false d p = refl
 none_of false c d p = refl
 none_of true true d p = cc
 
-not-true : (b : Bool) → (b ≡ true → ⊥) → b ≡ false
-not-true true h = absurd (h refl)
-not-true false h = refl
-
 no_text : (name : List ℕ) → (IsUtf8 name → ⊥) → false ≡ is_text_name name
 unfolding is_text_name
 no_text name none =
     none_of (nat_le 1 (length name) && nat_le (length name) 255) (is_utf8 name)
-    (list_all (λ c. not (is_control c)) (chars name)) (not-true (is_utf8 name) (λ e. none (IsUtf8-from_is_utf8 name e)))
+    (list_all (λ c. not (is_control c)) (chars name)) (false_from_ne_true (is_utf8 name) (λ e.
+    none (IsUtf8-from_is_utf8 name e)))
 
 pub returns-then-is_empty : goal.returns-then-is_empty
 unfolding is_text_name

@@ -1,19 +1,16 @@
 -- Each pair is that of the place at which the walk has come.
-use Rattle.std.proofs.Common.{◌≡◌, ◌∙◌, ◌+◌, ap, sym, subst, None, Some, arith, true}
-use Rattle.std.specs.Prelude.{IfSome, Option}
-use Rattle.seg_types.specs.declared.kinds.Kind.TheVariants.{Map}
-use Rattle.seg_types.specs.{Names.ByHandle, Values.kind_of_scalar, declared.values.ScalarValue.ScalarValue}
-use Rattle.segment_manager.specs.{Parts.parts_until, State.DenotesCurrent, objects.BoundObjects.IsBound}
-use Rattle.segment_manager.proofs.{NextPairs.IsNext, NextPairs.no-pair, PartLaws.well}
-use Rattle.segment_values.specs.{Asked.pair_part, Writing.WritesFor}
-use Rattle.segment_values.proofs.pairs.Walk.{LeadsTo, leads-first, leads-next, leads-none, led, none-owed, pair-owed}
+use Rattle.std.proofs.Common.{◌≡◌, ◌∙◌, None, Some, arith}
+use Rattle.std.specs.Prelude.{Option}
+use Rattle.seg_types.specs.{Names.ByHandle, declared.values.ScalarValue.ScalarValue}
+use Rattle.segment_manager.proofs.{NextPairs.IsNext, NextPairs.no-pair}
+use Rattle.segment_values.specs.{Asked.pair_part}
+use Rattle.segment_values.proofs.pairs.Walk.{leads-first, leads-next, leads-none, led, none-owed, pair-owed}
 use Rattle.segment_values.proofs.Owed.{of-all, of-cut_in, of-more, of-start}
 use Rattle.segment_values.proofs.contents.put_pairs.Goals.{in-Some+in_ok-put_pair, in_default}
 use Rattle.segment_values.proofs.contents.put_pairs.Goals as goal
 
 pub pair_past-requires : goal.pair_past-requires
-pair_past-requires g c = subst (λ k. IsBound (Map k c.args.values) c.args.object c.args.segment.now)
-    (sym c.pairs.invariant.kind) c.requires.object
+pair_past-requires g c = rw c.pairs.invariant.kind c.requires.object
 
 pub returns-in_err-put_pair : goal.returns-in_err-put_pair
 returns-in_err-put_pair g c =
@@ -43,29 +40,19 @@ pairs-preserved g c =
       | in-Some+in_ok-put_pair w ↦
           let n = read (Some (w.in-Some.key, w.in-Some.value)) w.in-Some.is in
           record {
-            told = subst (λ o. WritesFor (g.W.Sink.history c.args.out.now) (g.W.Sink.history o) well
-                (DenotesCurrent s.cut.bytes) (λ d. parts_until (pair_part sp k v d (ByHandle h)) (i + 1)))
-                (sym w.out-is) (of-more (λ d. pair_part sp k v d (ByHandle h)) c.pairs.invariant.told
+            told = rw w.out-is (of-more (λ d. pair_part sp k v d (ByHandle h)) c.pairs.invariant.told
                 (pair-owed s h k v i sp w.in-Some.key w.in-Some.value n w.in_ok-put_pair.ensures));
-            kind = ap kind_of_scalar w.bound-is
-                ∙ subst (λ (r : Option (ScalarValue × ScalarValue)). IfSome r (λ (at, value).
-                kind_of_scalar at ≡ kind_of_scalar c.pairs.bound)) w.in-Some.is c.pair_past.ensures.kind
-                ∙ c.pairs.invariant.kind;
-            next = subst (λ b. LeadsTo s h k v b c.match-pair_past.bound (i + 1)) (sym w.above-is)
-                (subst (λ x. LeadsTo s h k v true x (i + 1)) (sym w.bound-is)
-                (leads-next s h k v i w.in-Some.key w.in-Some.value n));
+            kind = rw w.bound-is (rw w.in-Some.is at c.pair_past.ensures.kind ∙ c.pairs.invariant.kind);
+            next = rw (w.above-is, w.bound-is) (leads-next s h k v i w.in-Some.key w.in-Some.value n);
           }
       | in_default w ↦
           let n = read None (no-pair _ w.in_default.not-Some) in
           record {
-            told = subst (λ o. WritesFor (g.W.Sink.history c.args.out.now) (g.W.Sink.history o) well
-                (DenotesCurrent s.cut.bytes) (λ d. parts_until (pair_part sp k v d (ByHandle h)) (i + 1)))
-                (sym w.out-is) (of-more (λ d. pair_part sp k v d (ByHandle h)) c.pairs.invariant.told
+            told = rw w.out-is (of-more (λ d. pair_part sp k v d (ByHandle h)) c.pairs.invariant.told
                 (none-owed s h k v i sp n));
-            kind = ap kind_of_scalar w.bound-is ∙ c.pairs.invariant.kind;
-            next = subst (λ b. LeadsTo s h k v b c.match-pair_past.bound (i + 1)) (sym w.above-is)
-                (subst (λ x. LeadsTo s h k v c.pairs.above x (i + 1)) (sym w.bound-is)
-                (leads-none s h k v i c.pairs.above c.pairs.bound c.pairs.invariant.next n));
+            kind = rw w.bound-is c.pairs.invariant.kind;
+            next = rw (w.above-is, w.bound-is)
+                (leads-none s h k v i c.pairs.above c.pairs.bound c.pairs.invariant.next n);
           }
     ]
 

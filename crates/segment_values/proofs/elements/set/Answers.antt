@@ -1,12 +1,12 @@
-use Rattle.std.proofs.Common.{◌≡◌, Ok, refl, rules, sym, ap, subst, ◌∙◌, pos}
+use Rattle.std.proofs.Common.{◌≡◌, rules, sym, ap, ◌∙◌, pos}
 use Rattle.seg_types.specs.declared.kinds.Kind.TheVariants.{Scalar, String, Strings, Vector}
-use Rattle.seg_types.specs.Commands.{Quoted, Set, literal_of, value_of_literal}
-use Rattle.seg_types.specs.{declared.kinds.ScalarKind.TheVariants.U8, declared.values.ScalarValue.ScalarValue}
-use Rattle.seg_types.specs.{declared.values.ScalarValue.TheVariants.U8 as Byte, Literals.IsValueOf, Keys.key_seen}
+use Rattle.seg_types.specs.Commands.{Quoted, Set, literal_of}
+use Rattle.seg_types.specs.{declared.kinds.ScalarKind.TheVariants.U8}
+use Rattle.seg_types.specs.{declared.values.ScalarValue.TheVariants.U8 as Byte, Keys.key_seen}
 use Rattle.seg_types.specs.Values.{kind_of_scalar}
 use Rattle.segment_manager.specs.{Calls.elements_of, objects.BoundObjects.key_of}
 use Rattle.segment_manager.specs.State.{TakesStepOfKind, done_answer}
-use Rattle.segment_manager.proofs.CommandLaws.{elements-told, handle-to-change, set-map, set-no_text, set-unchangeable}
+use Rattle.segment_manager.proofs.CommandLaws.{set-map, set-no_text, set-unchangeable}
 use Rattle.segment_manager.proofs.CommandLaws.{to-change}
 use Rattle.segment_manager.proofs.Laws.{located-steps, of-change}
 use Rattle.segment_values.proofs.{Exits.exit-is, elements.Bytes.element-elsewhere, elements.Bytes.element-told}
@@ -30,9 +30,9 @@ returns-in_ok-scalar-in-Scalar-clause-step g c =
 pub returns-in_ok-scalar-in-Scalar-clause-element : goal.returns-in_ok-scalar-in-Scalar-clause-element
 returns-in_ok-scalar-in-Scalar-clause-element g c =
     element-told c.args.segment.now c.set_array_element.new.segment (key_seen c.args.key.now) c.in_ok-object.object
-    c.in_ok-object.ensures.located (kind_of_scalar c.in_ok-scalar-in-Scalar.scalar) c.args.index
-    c.set_array_element.result (elements-told (handle-to-change c.in_ok-object.ensures
-    (c.in-Scalar.is ∙ ap Scalar (sym c.in_ok-scalar-in-Scalar.ensures.0))) refl) c.set_array_element.ensures.element
+    c.in_ok-object.ensures.located (kind_of_scalar c.in_ok-scalar-in-Scalar.scalar)
+    (c.in-Scalar.is ∙ ap Scalar (sym c.in_ok-scalar-in-Scalar.ensures.0)) c.args.index c.set_array_element.result
+    c.set_array_element.ensures.element
 
 pub returns-in_err-scalar-in-Vector-clause-step : goal.returns-in_err-scalar-in-Vector-clause-step
 returns-in_err-scalar-in-Vector-clause-step g c = rw (exit-is c.from_residual-in_err-scalar-in-Vector.ensures.1)
@@ -80,7 +80,6 @@ pub returns-in-U8-clause-step : goal.returns-in-U8-clause-step
 returns-in-U8-clause-step g c =
     let e : c.set.new.self.segment.now ≡ c.segment-1.given.0 = search rules in
     set-done c.in_ok-object.ensures (ap elements_of c.in-String.is) _ _ (Byte c.in-U8.byte)
-    (subst (λ (v : ScalarValue). IsValueOf U8 (value_of_literal U8 (g.L.WrittenValue.literal c.args.value.now)) (Ok v))
-    c.in-U8.is c.in_ok-byte-in-String.ensures) c.in-String.is
+    (rw c.in-U8.is at c.in_ok-byte-in-String.ensures) c.in-String.is
     (of-change (λ o u v. TakesStepOfKind u v (key_of o) String (Set (key_of o) c.args.index (literal_of U8
     (pos c.in-U8.byte))) (done_answer c.set.result)) c.at.ensures.object c.at.ensures.segment e c.set.ensures.step)

@@ -1,10 +1,9 @@
 -- The elements are read from their bytes in the run, which lie in the image.
-use Rattle.std.proofs.Common.{◌≡◌, ◌∙◌, ◌*◌, ◌+◌, ap, arith, drop, length, subst, sym, take}
-use Rattle.seg_types.specs.Kinds.{size_of}
+use Rattle.std.proofs.Common.{◌∙◌, ◌*◌, ◌+◌, ap, arith, drop, length, subst, sym, take}
 use Rattle.segment_manager.specs.State.{IsSegment}
 use Rattle.segment_values.specs.Ranges.{slice_of}
 use Rattle.segment_values.proofs.Located.{of-handle}
-use Rattle.segment_values.proofs.ranges.InPlace.{has-run, range-bytes, range-inside, run-counts, slice-part}
+use Rattle.segment_values.proofs.ranges.InPlace.{has-run, range-bytes, range-small, run-counts, slice-part}
 use Rattle.segment_values.proofs.ranges.Reads.{no-reads, range-read, range-refused, series-reads}
 use Rattle.segment_values.proofs.reads.read_elements.Goals as goal
 
@@ -29,36 +28,27 @@ returns-then-not-has_range-clause-read g c =
 
 pub overflow_mul-from : goal.overflow_mul-from
 overflow_mul-from g c =
-    let s = c.args.segment.now in let o = c.args.object in let k = g.T.Scalar.kind in let run = c.in_ok-run.run' in
-    let first = c.args.first in let n = length c.args.series.now in
-    let limits = range-inside s o k (of-handle c.requires) (sym c.if-not-is_slice.ensures) run c.in_ok-run.ensures.run
-    c.in_ok-run.ensures.bytes first n (sym c.if-not-has_range.ensures)
-    (subst IsSegment c.as_bytes-image.ensures.bytes c.as_bytes-image.ensures.denotation) in
-    let within = limits.0 in let short = limits.1 in
-    let same : c.SIZE.result * first ≡ size_of k * first = ap (λ m. m * first) (c.SIZE.ensures ∙ g.met.T.Scalar.size) in
-    omega (arith, within, short, same)
+    let small = range-small c.args.segment.now c.args.object g.T.Scalar.kind (of-handle c.requires)
+    (sym c.if-not-is_slice.ensures) c.in_ok-run.run' c.in_ok-run.ensures.run c.in_ok-run.ensures.bytes c.args.first
+    (length c.args.series.now) (sym c.if-not-has_range.ensures)
+    (subst IsSegment c.as_bytes-image.ensures.bytes c.as_bytes-image.ensures.denotation) c.SIZE.result
+    (c.SIZE.ensures ∙ g.met.T.Scalar.size) in let few = small.0 in omega (arith, few)
 
 pub overflow_add-from : goal.overflow_add-from
 overflow_add-from g c =
-    let s = c.args.segment.now in let o = c.args.object in let k = g.T.Scalar.kind in let run = c.in_ok-run.run' in
-    let first = c.args.first in let n = length c.args.series.now in
-    let limits = range-inside s o k (of-handle c.requires) (sym c.if-not-is_slice.ensures) run c.in_ok-run.ensures.run
-    c.in_ok-run.ensures.bytes first n (sym c.if-not-has_range.ensures)
-    (subst IsSegment c.as_bytes-image.ensures.bytes c.as_bytes-image.ensures.denotation) in
-    let within = limits.0 in let short = limits.1 in
-    let same : c.SIZE.result * first ≡ size_of k * first = ap (λ m. m * first) (c.SIZE.ensures ∙ g.met.T.Scalar.size) in
-    omega (arith, within, short, same)
+    let small = range-small c.args.segment.now c.args.object g.T.Scalar.kind (of-handle c.requires)
+    (sym c.if-not-is_slice.ensures) c.in_ok-run.run' c.in_ok-run.ensures.run c.in_ok-run.ensures.bytes c.args.first
+    (length c.args.series.now) (sym c.if-not-has_range.ensures)
+    (subst IsSegment c.as_bytes-image.ensures.bytes c.as_bytes-image.ensures.denotation) c.SIZE.result
+    (c.SIZE.ensures ∙ g.met.T.Scalar.size) in let few = small.1 in omega (arith, few)
 
 pub overflow_mul-len : goal.overflow_mul-len
 overflow_mul-len g c =
-    let s = c.args.segment.now in let o = c.args.object in let k = g.T.Scalar.kind in let run = c.in_ok-run.run' in
-    let first = c.args.first in let n = length c.args.series.now in
-    let limits = range-inside s o k (of-handle c.requires) (sym c.if-not-is_slice.ensures) run c.in_ok-run.ensures.run
-    c.in_ok-run.ensures.bytes first n (sym c.if-not-has_range.ensures)
-    (subst IsSegment c.as_bytes-image.ensures.bytes c.as_bytes-image.ensures.denotation) in
-    let within = limits.0 in let short = limits.1 in
-    let same : c.SIZE-2.result * n ≡ size_of k * n = ap (λ m. m * n) (c.SIZE-2.ensures ∙ g.met.T.Scalar.size) in
-    omega (arith, within, short, same)
+    let small = range-small c.args.segment.now c.args.object g.T.Scalar.kind (of-handle c.requires)
+    (sym c.if-not-is_slice.ensures) c.in_ok-run.run' c.in_ok-run.ensures.run c.in_ok-run.ensures.bytes c.args.first
+    (length c.args.series.now) (sym c.if-not-has_range.ensures)
+    (subst IsSegment c.as_bytes-image.ensures.bytes c.as_bytes-image.ensures.denotation) c.SIZE-2.result
+    (c.SIZE-2.ensures ∙ g.met.T.Scalar.size) in let few = small.2 in omega (arith, few)
 
 pub returns-clause-read : goal.returns-clause-read
 returns-clause-read g c =

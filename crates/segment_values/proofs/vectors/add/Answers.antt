@@ -22,9 +22,7 @@ returns-in_ok-scalar-in-Vector-clause-step g c =
 
 pub returns-in-Some-clause-step : goal.returns-in-Some-clause-step
 returns-in-Some-clause-step g c =
-    text-added c.in_ok-object.ensures.located c.args.spot
-    (record { of_kind = to-change c.in_ok-object.ensures c.in-Strings.is; is = c.in-Some.ensures })
-    c.insert_text.ensures.step
+    text-added c.in_ok-object.ensures.located c.args.spot c.in-Strings.is c.in-Some.ensures c.insert_text.ensures.step
 
 pub returns-in-Some-clause-scalar : goal.returns-in-Some-clause-scalar
 returns-in-Some-clause-scalar g c none = absurd (none c.in-Some.text.now c.in-Some.ensures)

@@ -1,8 +1,4 @@
 -- The first pair is taken, and the others are left.
-use Rattle.std.proofs.Common.{sym, subst, drop, IfSome}
-use Rattle.std.specs.declared.ops.Bound.TheVariants.{Excluded}
-use Rattle.segment_manager.specs.objects.BoundObjects.{key_of}
-use Rattle.segment_views.specs.Ranged.{AreAhead}
 use Rattle.segment_views.proofs.ranges.RangeReads.{fewer, finds-none, finds-one}
 use Rattle.segment_views.proofs.ranges.BoundItemsPairsIterator.next.Goals as goal
 
@@ -11,14 +7,9 @@ invariant_of-self g c = record { few = c.self.invariant.few; nodes = c.first_bet
 
 pub invariant_of-self-2 : goal.invariant_of-self-2
 invariant_of-self-2 g c =
-    let s = c.self.inside.map.segment.now in
-    let key = key_of c.self.inside.map.object in
     record {
       few = fewer c.self.invariant g.K.Scalar.whole g.V.Scalar.whole c.in_ok-pair.was c.first_between.ensures.pair;
-      nodes = subst (AreAhead s key g.K.Scalar.kind g.V.Scalar.kind (Excluded (g.K.Scalar.whole c.in_ok-pair.pair.0)))
-          (sym c.skip.ensures) (subst (λ r. IfSome r (λ pair. AreAhead s key g.K.Scalar.kind g.V.Scalar.kind
-          (Excluded (g.K.Scalar.whole pair.0)) (drop 1 c.first_between.new.ahead))) c.in_ok-pair.was
-          c.first_between.ensures.rest);
+      nodes = rw c.skip.ensures (rw c.in_ok-pair.was at c.first_between.ensures.rest);
     }
 
 pub returns-in_err-pair-clause-steps : goal.returns-in_err-pair-clause-steps

@@ -1,4 +1,3 @@
--- Pairs are read into two series: the pairs above a key, series that are filled in parts, and the list of a walk.
+-- Pairs are read into two series: the pairs behind a pair (`Behind`), and a walk over a map's pairs (`Walk`).
 pub mod Behind
-pub mod Filled
-pub mod Walked
+pub mod Walk

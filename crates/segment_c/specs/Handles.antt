@@ -1,7 +1,8 @@
 -- What a call of a handle does: what is asked of its segment, what a refusal leaves, and its marks.
 use Rattle.std.specs.Prelude.{◌≡◌, ◌≤◌, ℕ}
 use Rattle.seg_types.specs.Commands.{Command}
-use Rattle.segment_manager.specs.{Answers.Answer, State.AnswersQuery, State.SegmentState}
+use Rattle.segment_manager.specs.{Answers.Answer, Answers.Done}
+use Rattle.segment_manager.specs.State.{AnswersQuery, SegmentState, TakesStep}
 use Rattle.segment_c.specs.Calls.{PerformsCall, PerformsRead, UnchangedOnCode}
 use Rattle.segment_c.specs.{Codes.answer_for, Marked.RaisesMoves, declared.segment_slot.SegmentSlot.SegmentSlot}
 
@@ -32,8 +33,20 @@ pub record ReadsHandle (wrong code : ℕ) (old new : SegmentSlot) (P : SegmentSt
   pub marks : new.marks ≡ old.marks
 
 -- a call that asks the segment by a command, and says the answer if the code is 0
-pub record AsksSegment {A : Type 0} (say : A → Answer) (c : Command) (code : ℕ) (before after : SegmentSlot)
-    (old new : A) : Type 0
+pub record AsksSegment {A : Type 0} (say : A → Answer) (wrong : ℕ) (c : Command) (code : ℕ)
+    (before after : SegmentSlot) (old new : A) : Type 0
   where
-    pub call : AsksHandle 0 code before after (λ s t. AnswersQuery s c (answer_for code (say new)))
+    pub call : AsksHandle wrong code before after (λ s t. AnswersQuery s c (answer_for code (say new)))
     pub outputs_on_error : 1 ≤ code → new ≡ old
+
+-- a call whose command changes the segment, and that says the answer if the code is 0
+pub record StepsSegment {A : Type 0} (say : A → Answer) (wrong : ℕ) (c : Command) (code : ℕ)
+    (before after : SegmentSlot) (old new : A) : Type 0
+  where
+    pub call : ChangesHandle wrong code before after (λ s t. TakesStep s t c (answer_for code (say new)))
+    pub outputs_on_error : 1 ≤ code → new ≡ old
+
+-- a call whose command changes the segment, and that says no more than its code
+abbrev pub DoesCommand : ℕ → Command → ℕ → SegmentSlot → SegmentSlot → Type 0
+DoesCommand wrong c code before after =
+    ChangesHandle wrong code before after (λ s t. TakesStep s t c (answer_for code Done))

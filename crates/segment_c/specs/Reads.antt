@@ -3,16 +3,19 @@ use Rattle.std.specs.Prelude.{◌≡◌, ℕ, ◌≤◌, ℤ, List, length, map,
 use Rattle.seg_types.specs.{declared.kinds.Kind.Kind, declared.kinds.ScalarKind.ScalarKind}
 use Rattle.seg_types.specs.{declared.kinds.ScalarKind.TheVariants.U8, declared.refusals.Refusal.Refusal}
 use Rattle.seg_types.specs.{declared.refusals.Refusal.TheVariants.WrongKind, declared.values.ScalarValue.ScalarValue}
-use Rattle.seg_types.specs.{Commands.Literal, Commands.value_of_literal, Names.Key, Refusals.refusal_number}
+use Rattle.seg_types.specs.{Commands.Get, Commands.Literal, Commands.value_of_literal, Names.Key}
+use Rattle.seg_types.specs.Refusals.{refusal_number}
 use Rattle.seg_types.specs.declared.kinds.Kind.TheVariants.{Map, Scalar, String, Strings, Vector}
 use Rattle.seg_map.specs.{Numbers.NumberPair, Places.item_of}
-use Rattle.segment_manager.specs.{Calls.kind_at, Directory.Directory, containers.Maps.pair_above, State.DenotesCurrent}
+use Rattle.segment_manager.specs.{Calls.kind_at, Calls.scalar_reply, Directory.Directory, State.AnswersWith}
+use Rattle.segment_manager.specs.{containers.Maps.pair_above, State.DenotesCurrent}
 use Rattle.segment_manager.specs.Answers.{Answer, TextElement, Refused}
 use Rattle.segment_manager.specs.containers.Walks.{KindedPair, first_of, item_of_kinds, item_seen, pairs_at}
 use Rattle.segment_values.specs.Ranges.{range_at}
 use Rattle.segment_c.specs.{declared.keys.ObjectKey.ObjectKey, declared.values.CScalar.CScalar, Images.CopiesOut}
-use Rattle.segment_c.specs.{Handles.ReadsHandle, declared.segment_slot.SegmentSlot.SegmentSlot}
-use Rattle.segment_c.specs.Passed.{key_of, key_wrong, scalar_in}
+use Rattle.segment_c.specs.{Codes.answer_for, Handles.AsksHandle, Handles.ReadsHandle}
+use Rattle.segment_c.specs.declared.segment_slot.SegmentSlot.{SegmentSlot}
+use Rattle.segment_c.specs.Passed.{element_in, key_of, key_wrong, scalar_in}
 
 -- the code is 0 and this holds, or it is that of the refusal
 abbrev pub IsCoded : {A : Type 0} → (A → Type 0) → ℕ → Result A Refusal → Type 0
@@ -119,3 +122,18 @@ TellsPair at value code (Err why) = code ≡ refusal_number why
 -- a pair goes out, as the code has it
 abbrev pub TellsPairOf : CScalar → CScalar → ℕ → Option (ScalarValue × ScalarValue) → Type 0
 TellsPairOf at value code pair = TellsPair at value code (Ok (option_map item_seen pair))
+
+-- a call reads a pair of a map, and writes its key and its value to two outputs, if there is one and the code is 0
+pub record TellsNeighbour (say : Directory → Result (Option KindedPair) Refusal) (wrong code : ℕ)
+    (before after : SegmentSlot) (at at' value value' : CScalar) : Type 0
+  where
+    pub read : ReadsHandle wrong code before after (λ s. (d : Directory) → DenotesCurrent s.cut.bytes d
+        → TellsPair at' value' code (say d))
+    pub outputs_on_error : 1 ≤ code → (at' ≡ at) × (value' ≡ value)
+
+-- a call reads the element at an index of the object of a key, and says it if the code is 0
+pub record TellsElement (key : ObjectKey) (index code : ℕ) (before after : SegmentSlot) (old new : CScalar) : Type 0
+  where
+    pub call : AsksHandle (key_wrong key) code before after (λ s t. AnswersWith s (λ d.
+        scalar_reply s.mode d (key_of key) (Get (key_of key) index)) (answer_for code (element_in new)))
+    pub outputs_on_error : 1 ≤ code → new ≡ old

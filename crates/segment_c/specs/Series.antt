@@ -5,7 +5,7 @@ use Rattle.seg_map.specs.{Listing.pairs_past, Numbers.NumberPair, Places.item_of
 use Rattle.seg_types.specs.{Commands.Literal, Commands.value_of_literal, Names.ByHandle, Names.Key}
 use Rattle.seg_types.specs.{declared.kinds.ScalarKind.ScalarKind, declared.refusals.Refusal.Refusal}
 use Rattle.segment_c.specs.Reads.{by_kinds, map_kinds_at}
-use Rattle.segment_manager.specs.{Directory.Directory, containers.Maps.number_item}
+use Rattle.segment_manager.specs.Directory.{Directory}
 use Rattle.segment_manager.specs.containers.Walks.{pairs_at_kinds}
 use Rattle.segment_manager.specs.declared.objects.object_ref.Object.{Object as Located}
 use Rattle.segment_manager.specs.State.{DenotesCurrent, SegmentState}
@@ -37,24 +37,6 @@ key_bits p = bits_of p.key
 
 abbrev pub value_bits : NumberPair → ℤ
 value_bits p = bits_of p.value
-
--- the bits of an item that a map's call returned
-abbrev pub item_key : {K V : Type 0} → (K → ℤ) → K × V → ℤ
-item_key whole (x, y) = bits_of (whole x)
-
-abbrev pub item_value : {K V : Type 0} → (V → ℤ) → K × V → ℤ
-item_value whole (x, y) = bits_of (whole y)
-
--- the series with the first `n` of these numbers from a place on
-abbrev pub written : List ℤ → ℕ → List ℤ → ℕ → List ℤ
-written series at zs n = take at series ++ take n zs ++ drop (at + n) series
-
--- the list has the first of these pairs in its first places: as many as there are places, and as there are pairs
-pub record ListsPairs {K V : Type 0} (k : K → ℤ) (v : V → ℤ) (ps : List NumberPair) (capacity : ℕ) (list : List (K × V))
-    (count : ℕ) : Type 0
-  where
-    pub count_is : count ≡ min capacity (length ps)
-    pub items : map (number_item k v) (take count list) ≡ map item_of (take count ps)
 
 -- The two series have the bits of the first of these pairs in their first places: as many as both have places, and as
 -- there are pairs. The other places keep what they had.

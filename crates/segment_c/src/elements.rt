@@ -1,13 +1,13 @@
 //! Elements of objects of scalars, of vectors and of strings.
 ghost use Rattle.std.specs.Prelude.{◌≡◌, ◌≤◌, OnErr, false, true};
 ghost use Rattle.seg_types.specs.Values.{kind_of_scalar};
-ghost use Rattle.seg_types.specs.Commands.{Erase, Get, Insert, Integer, Pop, Push, Set};
+ghost use Rattle.seg_types.specs.Commands.{Erase, Insert, Integer, Pop, Push, Set};
 ghost use Rattle.seg_types.specs.{Keys.key_seen, Names.ByHandle, Written.literal_seen};
 ghost use Rattle.seg_types.specs.declared.kinds.Kind.TheVariants.{Strings as StringsKind, Vector as VectorOf};
-ghost use Rattle.segment_c.specs.{Codes.answer_for, Handles.AsksHandle, Handles.ChangesHandle};
+ghost use Rattle.segment_c.specs.{Codes.answer_for, Handles.ChangesHandle, Handles.DoesCommand};
 ghost use Rattle.segment_c.specs.Passed.{element_in, key_of, key_wrong, literal_in, or_else, value_wrong};
-ghost use Rattle.segment_c.specs.Reads.{vector_kind, vector_kind_at};
-ghost use Rattle.segment_manager.specs.{Answers.Done, Answers.refusal_of, Calls.scalar_reply, Step.step_of_kind};
+ghost use Rattle.segment_c.specs.Reads.{TellsElement, vector_kind_at};
+ghost use Rattle.segment_manager.specs.{Answers.Done, Answers.refusal_of, Step.step_of_kind};
 ghost use Rattle.segment_manager.specs.State.{AnswersWith, TakesStep, TakesStepOfKind, Transitions, done_answer};
 ghost use Rattle.segment_manager.specs.{State.scalar_answer, containers.TextLists.LeadsOnOfKind};
 ghost use Rattle.segment_values.specs.Changes.{command_at};
@@ -34,10 +34,7 @@ pub extern "C" fn zx_get(
     index: u64,
     value: &mut CScalar,
 ) -> u32
-    ensures call { AsksHandle (key_wrong key.now) result h.old h.new
-        (λ s t. AnswersWith s (λ d. scalar_reply s.mode d (key_of key.now) (Get (key_of key.now) index))
-        (answer_for result (element_in value.new))) }
-    ensures outputs_on_error { 1 ≤ result → value.new ≡ value.old }
+    ensures { TellsElement key.now index result h.old h.new value.old value.new }
 {
     let Some(handle) = key.as_handle() else {
         return get_any(alloc, h, key, index, value);
@@ -61,10 +58,7 @@ fn get_any(
     index: u64,
     value: &mut CScalar,
 ) -> u32
-    ensures call { AsksHandle (key_wrong key.now) result h.old h.new
-        (λ s t. AnswersWith s (λ d. scalar_reply s.mode d (key_of key.now) (Get (key_of key.now) index))
-        (answer_for result (element_in value.new))) }
-    ensures outputs_on_error { 1 ≤ result → value.new ≡ value.old }
+    ensures { TellsElement key.now index result h.old h.new value.old value.new }
 {
     let (which, segment) = passed!(enter(alloc, h, key));
     let answer = get(&segment, &which, index);
@@ -80,8 +74,8 @@ pub extern "C" fn zx_set(
     index: u64,
     value: &CScalar,
 ) -> u32
-    ensures call { ChangesHandle (or_else (key_wrong key.now) (value_wrong value.now)) result h.old h.new
-        (λ s t. TakesStep s t (Set (key_of key.now) index (literal_in value.now)) (answer_for result Done)) }
+    ensures call { DoesCommand (or_else (key_wrong key.now) (value_wrong value.now))
+        (Set (key_of key.now) index (literal_in value.now)) result h.old h.new }
 {
     let (which, new, mut segment) = passed!(enter_with(alloc, h, key, value));
     let answer = segment_values::set(&mut segment, &which, index, &new, &mut ());
@@ -96,8 +90,8 @@ pub extern "C" fn zx_push(
     key: &ObjectKey<'_>,
     value: &CScalar,
 ) -> u32
-    ensures call { ChangesHandle (or_else (key_wrong key.now) (value_wrong value.now)) result h.old h.new
-        (λ s t. TakesStep s t (Push (key_of key.now) (literal_in value.now)) (answer_for result Done)) }
+    ensures call { DoesCommand (or_else (key_wrong key.now) (value_wrong value.now))
+        (Push (key_of key.now) (literal_in value.now)) result h.old h.new }
 {
     let (Some(handle), Some(number)) = (key.as_handle(), value.as_i64()) else {
         return push_any(alloc, h, key, value);
@@ -111,8 +105,7 @@ pub extern "C" fn zx_push(
 #[inline(never)]
 #[unsafe(no_mangle)]
 pub extern "C" fn zx_push_i64(alloc: Global, h: &mut SegmentSlot, handle: u64, number: i64) -> u32
-    ensures call { ChangesHandle 0 result h.old h.new
-        (λ s t. TakesStep s t (Push (ByHandle handle) (Integer number)) (answer_for result Done)) }
+    ensures call { DoesCommand 0 (Push (ByHandle handle) (Integer number)) result h.old h.new }
 {
     let mut segment = passed!(take(alloc, h));
     if push_here(&mut segment, handle, number) {
@@ -137,8 +130,8 @@ fn push_here(segment: &mut Segment, handle: Handle, number: i64) -> bool
 /// Puts a value after the last element of the vector of a key, for any form of key and any value.
 #[inline(never)]
 fn push_any(alloc: Global, h: &mut SegmentSlot, key: &ObjectKey<'_>, value: &CScalar) -> u32
-    ensures call { ChangesHandle (or_else (key_wrong key.now) (value_wrong value.now)) result h.old h.new
-        (λ s t. TakesStep s t (Push (key_of key.now) (literal_in value.now)) (answer_for result Done)) }
+    ensures call { DoesCommand (or_else (key_wrong key.now) (value_wrong value.now))
+        (Push (key_of key.now) (literal_in value.now)) result h.old h.new }
 {
     let (which, new, mut segment) = passed!(enter_with(alloc, h, key, value));
     let answer = push(&mut segment, &which, new);
@@ -180,8 +173,8 @@ pub extern "C" fn zx_insert(
     index: u64,
     value: &CScalar,
 ) -> u32
-    ensures call { ChangesHandle (or_else (key_wrong key.now) (value_wrong value.now)) result h.old h.new
-        (λ s t. TakesStep s t (Insert (key_of key.now) index (literal_in value.now)) (answer_for result Done)) }
+    ensures call { DoesCommand (or_else (key_wrong key.now) (value_wrong value.now))
+        (Insert (key_of key.now) index (literal_in value.now)) result h.old h.new }
 {
     let (which, new, mut segment) = passed!(enter_with(alloc, h, key, value));
     let answer = add(&mut segment, &which, InsertSpot::Before(index), new);
@@ -210,8 +203,7 @@ pub extern "C" fn zx_erase(
     key: &ObjectKey<'_>,
     index: u64,
 ) -> u32
-    ensures call { ChangesHandle (key_wrong key.now) result h.old h.new
-        (λ s t. TakesStep s t (Erase (key_of key.now) index) (answer_for result Done)) }
+    ensures call { DoesCommand (key_wrong key.now) (Erase (key_of key.now) index) result h.old h.new }
 {
     make_change(alloc, h, key, ObjectChange::Erase(index))
 }
@@ -266,18 +258,11 @@ fn kind_of_vector(segment: &Segment, key: &Key) -> ScalarKind
     ensures { AnswersWith segment.now (λ d. vector_kind_at d (key_seen key.now)) result }
 {
     match locate(segment, key) {
-        Ok(object) => element_kind(object.kind),
+        Ok(object) => match object.kind {
+            Kind::Vector(element) => element,
+            _ => ScalarKind::U8,
+        },
         Err(_) => ScalarKind::U8,
-    }
-}
-
-/// Returns the kind of the elements of a vector of a kind.
-fn element_kind(kind: Kind) -> ScalarKind
-    ensures { result ≡ vector_kind kind }
-{
-    match kind {
-        Kind::Vector(element) => element,
-        _ => ScalarKind::U8,
     }
 }
 

@@ -57,7 +57,7 @@ pub extern "C" fn zx_close(alloc: Global, h: &mut SegmentSlot)
 /// Returns the number of bytes in the segment.
 #[unsafe(no_mangle)]
 pub extern "C" fn zx_size(alloc: Global, h: &mut SegmentSlot, size: &mut u64) -> u32
-    ensures call { AsksSegment Number Size result h.old h.new size.old size.new }
+    ensures call { AsksSegment Number 0 Size result h.old h.new size.old size.new }
 {
     let segment = passed!(take(alloc, h));
     *size = segment.size();
@@ -67,7 +67,7 @@ pub extern "C" fn zx_size(alloc: Global, h: &mut SegmentSlot, size: &mut u64) ->
 /// Returns the bytes of all gaps, their tags included.
 #[unsafe(no_mangle)]
 pub extern "C" fn zx_free_bytes(alloc: Global, h: &mut SegmentSlot, free_bytes: &mut u64) -> u32
-    ensures call { AsksSegment Number Free result h.old h.new free_bytes.old free_bytes.new }
+    ensures call { AsksSegment Number 0 Free result h.old h.new free_bytes.old free_bytes.new }
 {
     let segment = passed!(take(alloc, h));
     *free_bytes = segment.free();

@@ -2,7 +2,7 @@
 ghost use Rattle.std.specs.declared.option.Option.TheVariants.{None, Some};
 ghost use Rattle.std.specs.Prelude.{◌≡◌, ◌≤◌, slice_get};
 ghost use Rattle.best_fit.specs.Extents.{spans};
-ghost use Rattle.seg_types.specs.{Commands.NumNamed, Commands.NumUnique, Keys.key_seen, Kinds.class_code};
+ghost use Rattle.seg_types.specs.{Commands.NumNamed, Commands.NumUnique, Kinds.class_code};
 ghost use Rattle.segment_c.specs.Lists.{IsInfo, WritesInfo, TellsAlone, TellsBlock, WritesInfoOf, use_code};
 ghost use Rattle.segment_c.specs.{Codes.answer_for, Handles.AsksHandle, Handles.AsksSegment, Handles.ReadsHandle};
 ghost use Rattle.segment_c.specs.Passed.{key_of, key_wrong};
@@ -15,9 +15,9 @@ use crate::codes::{DONE, NOT_FOUND, OUT_OF_RANGE, SHORT_BUFFER};
 use crate::keys::ObjectKey;
 use crate::segment_slot::{SegmentSlot, put, take};
 use block_tags::Role;
-use seg_types::{Class, Key};
+use seg_types::Class;
+use segment_manager::Instance;
 use segment_manager::unchecked::{named_instance, unique_instance};
-use segment_manager::{Instance, Segment};
 use std::alloc::Global;
 
 /// What an object says of itself. Its class is 0 if it is found by its handle alone, 1 by its name, 2 as the one of its
@@ -79,42 +79,6 @@ impl Info {
     }
 }
 
-/// Writes what the object of a key says of itself.
-fn tell_key(segment: &Segment, key: &Key, info: &mut Info, name: &mut [u8]) -> u32
-    ensures read { WritesInfoOf segment.now (λ d. object_at d (key_seen key.now)) 6 info.new name.old name.new result }
-    ensures unchanged_on_error { 1 ≤ result → (info.new ≡ info.old) × (name.new ≡ name.old) }
-{
-    match segment.instance(key) {
-        Ok(said) => tell(&said, info, name),
-        Err(_) => NOT_FOUND,
-    }
-}
-
-/// Writes what the object with a name that has `index` others before it says of itself.
-fn tell_named(segment: &Segment, index: u64, info: &mut Info, name: &mut [u8]) -> u32
-    ensures read { WritesInfoOf segment.now (λ d. slice_get (named_objects d) index) 8 info.new name.old name.new
-        result }
-    ensures unchanged_on_error { 1 ≤ result → (info.new ≡ info.old) × (name.new ≡ name.old) }
-{
-    if index >= segment.num_named() {
-        return OUT_OF_RANGE;
-    }
-    tell(&named_instance(segment, index), info, name)
-}
-
-/// Writes what the unique object that has `index` others before it says of itself; it has no name.
-fn tell_unique(segment: &Segment, index: u64, info: &mut Info) -> u32
-    ensures read { (d : Directory) → DenotesCurrent segment.now.cut.bytes d
-        → TellsAlone info.new result (slice_get (unique_objects d) index) }
-    ensures unchanged_on_error { 1 ≤ result → info.new ≡ info.old }
-{
-    if index >= segment.num_unique() {
-        return OUT_OF_RANGE;
-    }
-    *info = Info::of(&unique_instance(segment, index));
-    DONE
-}
-
 /// Returns the code of how an object is found again.
 fn class_code(class: Class) -> u32
     ensures { result ≡ class_code class }
@@ -153,7 +117,13 @@ pub extern "C" fn zx_tell(
     ensures outputs_on_error { 1 ≤ result → (info.new ≡ info.old) × (name.new ≡ name.old) }
 {
     let (which, segment) = passed!(enter(alloc, h, key));
-    put(tell_key(&segment, &which, info, name), h, segment)
+    match segment.instance(&which) {
+        Ok(said) => {
+            let code = tell(&said, info, name);
+            put(code, h, segment)
+        }
+        Err(_) => put(NOT_FOUND, h, segment),
+    }
 }
 
 /// Returns what the object says of itself whose name has `index` others before it, in the order of their bytes.
@@ -170,7 +140,11 @@ pub extern "C" fn zx_named_at(
     ensures outputs_on_error { 1 ≤ result → (info.new ≡ info.old) × (name.new ≡ name.old) }
 {
     let segment = passed!(take(alloc, h));
-    put(tell_named(&segment, index, info, name), h, segment)
+    if index >= segment.num_named() {
+        return put(OUT_OF_RANGE, h, segment);
+    }
+    let code = tell(&named_instance(&segment, index), info, name);
+    put(code, h, segment)
 }
 
 /// Returns how many names stand before a text: the place, for `zx_named_at`, of the first name that does not, if there
@@ -205,7 +179,11 @@ pub extern "C" fn zx_unique_at(
     ensures outputs_on_error { 1 ≤ result → info.new ≡ info.old }
 {
     let segment = passed!(take(alloc, h));
-    put(tell_unique(&segment, index, info), h, segment)
+    if index >= segment.num_unique() {
+        return put(OUT_OF_RANGE, h, segment);
+    }
+    *info = Info::of(&unique_instance(&segment, index));
+    put(DONE, h, segment)
 }
 
 /// Returns the block or gap with `index` others before it.
@@ -236,7 +214,7 @@ pub extern "C" fn zx_tile_at(
 /// Returns the number of objects with names.
 #[unsafe(no_mangle)]
 pub extern "C" fn zx_num_named(alloc: Global, h: &mut SegmentSlot, count: &mut u64) -> u32
-    ensures call { AsksSegment Number NumNamed result h.old h.new count.old count.new }
+    ensures call { AsksSegment Number 0 NumNamed result h.old h.new count.old count.new }
 {
     let segment = passed!(take(alloc, h));
     *count = segment.num_named();
@@ -246,7 +224,7 @@ pub extern "C" fn zx_num_named(alloc: Global, h: &mut SegmentSlot, count: &mut u
 /// Returns the number of kinds with a unique object.
 #[unsafe(no_mangle)]
 pub extern "C" fn zx_num_unique(alloc: Global, h: &mut SegmentSlot, count: &mut u64) -> u32
-    ensures call { AsksSegment Number NumUnique result h.old h.new count.old count.new }
+    ensures call { AsksSegment Number 0 NumUnique result h.old h.new count.old count.new }
 {
     let segment = passed!(take(alloc, h));
     *count = segment.num_unique();

@@ -2,23 +2,21 @@
 ghost use Rattle.std.specs.Prelude.{◌≡◌, ◌≤◌, ◌≢◌, MatchResult, OnErr, Some, map, replicate, ℕ};
 ghost use Rattle.seg_types.specs.declared.kinds.Kind.TheVariants.{Map as MapOf, Scalar as ScalarOf};
 ghost use Rattle.seg_types.specs.declared.kinds.Kind.TheVariants.{String as StringKind, Strings as StringsKind};
-ghost use Rattle.seg_types.specs.Commands.{Bytes, Construct, Find, NoPairs, Numbers, Strings};
+ghost use Rattle.seg_types.specs.Commands.{Bytes, Find, NoPairs, Numbers, Strings};
 ghost use Rattle.seg_types.specs.{Keys.key_seen, Kinds.scalar_of_code, Values.kind_of_scalar, Values.value_of_scalar};
 ghost use Rattle.seg_types.specs.Names.{NoKey};
-ghost use Rattle.segment_c.specs.Passed.{count_wrong, entry_of, entry_wrong, key_of, key_wrong, kind_in, kind_wrong};
-ghost use Rattle.segment_c.specs.Passed.{new_of, new_wrong, object_kind_in, or_else, scalar_in, scalar_kind_in};
-ghost use Rattle.segment_c.specs.{Codes.answer_for, Handles.AsksHandle, Handles.ChangesHandle, Handles.MakesInHandle};
-ghost use Rattle.segment_c.specs.{Calls.ReachesSegment, Passed.scalar_kind_wrong, Passed.value_wrong, Passed.whole_in};
-ghost use Rattle.segment_c.specs.{Destroying.destroy_command, Making.FindsOrMakesObject};
+ghost use Rattle.segment_c.specs.Passed.{count_wrong, entry_wrong, key_of, key_wrong, kind_in, kind_wrong, new_wrong};
+ghost use Rattle.segment_c.specs.Passed.{object_kind_in, or_else, scalar_in, scalar_kind_in, scalar_kind_wrong};
+ghost use Rattle.segment_c.specs.{Calls.ReachesSegment, Codes.answer_for, Passed.value_wrong, Passed.whole_in};
+ghost use Rattle.segment_c.specs.{Destroying.destroy_command, Handles.AsksHandle, Handles.StepsSegment};
+ghost use Rattle.segment_c.specs.Making.{TellsMade, TellsFoundOrMade};
 ghost use Rattle.segment_manager.specs.State.{AnswersQuery, TakesStep, truth_answer};
-ghost use Rattle.segment_manager.specs.Answers.{Found, Made, Boolean};
-ghost use Rattle.segment_manager.specs.Keeping.{UnchangedWhere, LacksKey};
+ghost use Rattle.segment_manager.specs.{Answers.Found, Answers.Boolean, Keeping.UnchangedWhere, Keeping.LacksKey};
 
 use crate::calls::{enter, enter_entry, enter_new, passed};
 use crate::codes::{BAD_COUNT, BAD_KIND, found, found_or_absent, made, truth};
 use crate::keys::ObjectKey;
 use crate::segment_slot::{SegmentSlot, take};
-use crate::slices::CScalars;
 use crate::values::CScalar;
 use seg_types::{IndexKey, Key, Kind, MAX_ARRAY_LEN, Refusal, ScalarKind, ScalarValue};
 use segment_manager::Segment;
@@ -73,11 +71,10 @@ pub extern "C" fn zx_construct(
     value: &CScalar,
     handle: &mut u64,
 ) -> u32
-    ensures call { MakesInHandle (or_else (value_wrong value.now)
-        (or_else (count_wrong count) (new_wrong key.now (ScalarOf (kind_in value.now))))) result h.old h.new
-        (λ s t. TakesStep s t (Construct (new_of key.now (ScalarOf (kind_in value.now)))
-        (Numbers (kind_in value.now) (replicate count (whole_in value.now)))) (answer_for result (Made handle.new))) }
-    ensures outputs_on_error { 1 ≤ result → handle.new ≡ handle.old }
+    ensures { TellsMade (or_else (value_wrong value.now)
+        (or_else (count_wrong count) (new_wrong key.now (ScalarOf (kind_in value.now)))))
+        key.now (ScalarOf (kind_in value.now)) (Numbers (kind_in value.now) (replicate count (whole_in value.now)))
+        result h.old h.new handle.old handle.new }
 {
     let new = passed!(scalars(value, count));
     let (which, mut segment) = passed!(enter_new(alloc, h, key, Kind::Scalar(new.kind())));
@@ -96,13 +93,10 @@ pub extern "C" fn zx_find_or_construct(
     handle: &mut u64,
     count_found: &mut u32,
 ) -> u32
-    ensures call { MakesInHandle (or_else (value_wrong value.now)
-        (or_else (count_wrong count) (entry_wrong key.now (ScalarOf (kind_in value.now))))) result
-        h.old h.new
-        (λ s t. FindsOrMakesObject s t (entry_of key.now (ScalarOf (kind_in value.now)))
-        (Numbers (kind_in value.now) (replicate count (whole_in value.now)))
-        (answer_for result (Found handle.new count_found.new))) }
-    ensures outputs_on_error { 1 ≤ result → (handle.new ≡ handle.old) × (count_found.new ≡ count_found.old) }
+    ensures { TellsFoundOrMade (or_else (value_wrong value.now)
+        (or_else (count_wrong count) (entry_wrong key.now (ScalarOf (kind_in value.now)))))
+        key.now (ScalarOf (kind_in value.now)) (Numbers (kind_in value.now) (replicate count (whole_in value.now)))
+        result h.old h.new handle.old handle.new count_found.old count_found.new }
 {
     let new = passed!(scalars(value, count));
     let (which, mut segment) = passed!(enter_entry(alloc, h, key, Kind::Scalar(new.kind())));
@@ -119,10 +113,8 @@ pub extern "C" fn zx_construct_string(
     text: &[u8],
     handle: &mut u64,
 ) -> u32
-    ensures call { MakesInHandle (new_wrong key.now (StringKind)) result h.old h.new
-        (λ s t. TakesStep s t (Construct (new_of key.now (StringKind)) (Bytes text.now))
-        (answer_for result (Made handle.new))) }
-    ensures outputs_on_error { 1 ≤ result → handle.new ≡ handle.old }
+    ensures { TellsMade (new_wrong key.now StringKind) key.now StringKind (Bytes text.now) result h.old h.new
+        handle.old handle.new }
 {
     let (which, mut segment) = passed!(enter_new(alloc, h, key, Kind::String));
     made(segment.construct_string(&which, text), handle, h, segment)
@@ -138,10 +130,8 @@ pub extern "C" fn zx_find_or_construct_string(
     handle: &mut u64,
     count_found: &mut u32,
 ) -> u32
-    ensures call { MakesInHandle (entry_wrong key.now (StringKind)) result h.old h.new
-        (λ s t. FindsOrMakesObject s t (entry_of key.now (StringKind)) (Bytes text.now)
-        (answer_for result (Found handle.new count_found.new))) }
-    ensures outputs_on_error { 1 ≤ result → (handle.new ≡ handle.old) × (count_found.new ≡ count_found.old) }
+    ensures { TellsFoundOrMade (entry_wrong key.now StringKind) key.now StringKind (Bytes text.now) result h.old h.new
+        handle.old handle.new count_found.old count_found.new }
 {
     let (which, mut segment) = passed!(enter_entry(alloc, h, key, Kind::String));
     let answer = segment.find_or_construct_string(&which, text);
@@ -157,10 +147,8 @@ pub extern "C" fn zx_construct_strings(
     texts: &[&[u8]],
     handle: &mut u64,
 ) -> u32
-    ensures call { MakesInHandle (new_wrong key.now (StringsKind)) result h.old h.new
-        (λ s t. TakesStep s t (Construct (new_of key.now (StringsKind))
-        (Strings (map (λ text. text.now) texts.now))) (answer_for result (Made handle.new))) }
-    ensures outputs_on_error { 1 ≤ result → handle.new ≡ handle.old }
+    ensures { TellsMade (new_wrong key.now StringsKind) key.now StringsKind
+        (Strings (map (λ text. text.now) texts.now)) result h.old h.new handle.old handle.new }
 {
     let (which, mut segment) = passed!(enter_new(alloc, h, key, Kind::Strings));
     made(segment.construct_texts(&which, texts), handle, h, segment)
@@ -176,10 +164,9 @@ pub extern "C" fn zx_find_or_construct_strings(
     handle: &mut u64,
     count_found: &mut u32,
 ) -> u32
-    ensures call { MakesInHandle (entry_wrong key.now (StringsKind)) result h.old h.new
-        (λ s t. FindsOrMakesObject s t (entry_of key.now (StringsKind))
-        (Strings (map (λ text. text.now) texts.now)) (answer_for result (Found handle.new count_found.new))) }
-    ensures outputs_on_error { 1 ≤ result → (handle.new ≡ handle.old) × (count_found.new ≡ count_found.old) }
+    ensures { TellsFoundOrMade (entry_wrong key.now StringsKind) key.now StringsKind
+        (Strings (map (λ text. text.now) texts.now)) result h.old h.new handle.old handle.new count_found.old
+        count_found.new }
 {
     let (which, mut segment) = passed!(enter_entry(alloc, h, key, Kind::Strings));
     let answer = segment.find_or_construct_texts(&which, texts);
@@ -196,12 +183,10 @@ pub extern "C" fn zx_construct_map(
     values: u32,
     handle: &mut u64,
 ) -> u32
-    ensures call { MakesInHandle (or_else (scalar_kind_wrong keys)
-        (or_else (scalar_kind_wrong values)
-        (new_wrong key.now (MapOf (scalar_kind_in keys) (scalar_kind_in values))))) result h.old h.new
-        (λ s t. TakesStep s t (Construct (new_of key.now (MapOf (scalar_kind_in keys) (scalar_kind_in values)))
-        (NoPairs (scalar_kind_in keys) (scalar_kind_in values))) (answer_for result (Made handle.new))) }
-    ensures outputs_on_error { 1 ≤ result → handle.new ≡ handle.old }
+    ensures { TellsMade (or_else (scalar_kind_wrong keys) (or_else (scalar_kind_wrong values)
+        (new_wrong key.now (MapOf (scalar_kind_in keys) (scalar_kind_in values))))) key.now
+        (MapOf (scalar_kind_in keys) (scalar_kind_in values)) (NoPairs (scalar_kind_in keys) (scalar_kind_in values))
+        result h.old h.new handle.old handle.new }
 {
     let (of_keys, of_values) = passed!(map_kinds(keys, values));
     let (which, mut segment) = passed!(enter_new(alloc, h, key, Kind::Map(of_keys, of_values)));
@@ -220,14 +205,10 @@ pub extern "C" fn zx_find_or_construct_map(
     handle: &mut u64,
     count_found: &mut u32,
 ) -> u32
-    ensures call { MakesInHandle (or_else (scalar_kind_wrong keys)
-        (or_else (scalar_kind_wrong values)
-        (entry_wrong key.now (MapOf (scalar_kind_in keys) (scalar_kind_in values))))) result h.old h.new
-        (λ s t. FindsOrMakesObject s t
-        (entry_of key.now (MapOf (scalar_kind_in keys) (scalar_kind_in values)))
-        (NoPairs (scalar_kind_in keys) (scalar_kind_in values))
-        (answer_for result (Found handle.new count_found.new))) }
-    ensures outputs_on_error { 1 ≤ result → (handle.new ≡ handle.old) × (count_found.new ≡ count_found.old) }
+    ensures { TellsFoundOrMade (or_else (scalar_kind_wrong keys) (or_else (scalar_kind_wrong values)
+        (entry_wrong key.now (MapOf (scalar_kind_in keys) (scalar_kind_in values))))) key.now
+        (MapOf (scalar_kind_in keys) (scalar_kind_in values)) (NoPairs (scalar_kind_in keys) (scalar_kind_in values))
+        result h.old h.new handle.old handle.new count_found.old count_found.new }
 {
     let (of_keys, of_values) = passed!(map_kinds(keys, values));
     let (which, mut segment) = passed!(enter_entry(alloc, h, key, Kind::Map(of_keys, of_values)));
@@ -266,11 +247,10 @@ pub extern "C" fn zx_destroy(
     key: &ObjectKey<'_>,
     was_there: &mut bool,
 ) -> u32
-    ensures call { ChangesHandle (key_wrong key.now) result h.old h.new
-        (λ s t. TakesStep s t (destroy_command (key_of key.now)) (answer_for result (Boolean was_there.new))) }
+    ensures call { StepsSegment Boolean (key_wrong key.now) (destroy_command (key_of key.now)) result h.old h.new
+        was_there.old was_there.new }
     ensures absent { ReachesSegment (key_wrong key.now) result h.old.segment.value h.new.segment.value (λ s t.
         UnchangedWhere s t (LacksKey (key_of key.now))) }
-    ensures outputs_on_error { 1 ≤ result → was_there.new ≡ was_there.old }
 {
     let (which, mut segment) = passed!(enter(alloc, h, key));
     truth(destroy(&mut segment, &which), was_there, h, segment)

@@ -1,14 +1,11 @@
 //! Pairs of maps, several read by one call.
-ghost use Rattle.std.specs.Prelude.{◌≡◌, ◌≤◌, ◌+◌, int_lt, length, map, ℤ};
-ghost use Rattle.seg_map.specs.Listing.{pairs_past};
-ghost use Rattle.seg_types.specs.{Names.ByHandle, Values.kind_of_scalar, Values.value_of_scalar, Written.literal_seen};
-ghost use Rattle.seg_types.specs.{declared.kinds.Kind.TheVariants.Map as MapOf, Keys.key_seen};
-ghost use Rattle.seg_types.specs.declared.kinds.ScalarKind.TheVariants.{I64};
-ghost use Rattle.segment_c.specs.Series.{FillsFrom, FillsSeries, ListsPairs, bits_of, item_key, item_value};
+ghost use Rattle.std.specs.Prelude.{◌≡◌, ◌≤◌};
+ghost use Rattle.seg_types.specs.Values.{kind_of_scalar, value_of_scalar};
+ghost use Rattle.seg_types.specs.declared.kinds.Kind.TheVariants.{Map as MapOf};
 ghost use Rattle.segment_c.specs.Passed.{key_of, key_wrong, literal_in, or_else, value_wrong};
-ghost use Rattle.segment_c.specs.{Handles.ReadsHandle, Reads.IsCoded, Series.pairs_from_at, Series.written};
-ghost use Rattle.segment_manager.specs.{containers.Walks.pairs_at_kinds, objects.BoundObjects.IsBound};
-ghost use Rattle.segment_manager.specs.{Directory.Directory, State.DenotesCurrent};
+ghost use Rattle.segment_c.specs.Series.{FillsFrom, FillsSeries, bits_of, pairs_from_at};
+ghost use Rattle.segment_c.specs.{Handles.ReadsHandle, Reads.IsCoded};
+ghost use Rattle.segment_manager.specs.{Directory.Directory, State.DenotesCurrent, objects.BoundObjects.IsBound};
 
 use crate::calls::{enter_with, passed};
 use crate::codes::{DONE, code_of};
@@ -16,12 +13,12 @@ use crate::keys::ObjectKey;
 use crate::maps::map_of;
 use crate::segment_slot::{SegmentSlot, put};
 use crate::values::CScalar;
-use seg_types::{Key, Scalar, ScalarKind, ScalarValue, WrittenValue, by_value};
+use seg_types::{Scalar, ScalarKind, ScalarValue, WrittenValue, by_kind, by_value};
 use segment_manager::{Map, Object, Segment};
 use std::alloc::Global;
 
-/// The most pairs that one walk reads.
-const WALK: usize = 32;
+/// The most pairs whose nodes are listed at once.
+const MOST: usize = 32;
 
 /// A scalar as C reads it in a series of keys or of values.
 pub trait Bits: Scalar {
@@ -30,33 +27,19 @@ pub trait Bits: Scalar {
         ensures { result ≡ bits_of (Self.whole self) };
 }
 
-impl Bits for bool {
-    #[inline(always)]
-    fn bits(self) -> i64 {
-        i64::from(self)
-    }
+/// Implements `Bits` for the types of which each value is an `i64`.
+macro_rules! impl_bits {
+    ($($type:ty),*) => {
+        $(impl Bits for $type {
+            #[inline(always)]
+            fn bits(self) -> i64 {
+                i64::from(self)
+            }
+        })*
+    };
 }
 
-impl Bits for u8 {
-    #[inline(always)]
-    fn bits(self) -> i64 {
-        i64::from(self)
-    }
-}
-
-impl Bits for i32 {
-    #[inline(always)]
-    fn bits(self) -> i64 {
-        i64::from(self)
-    }
-}
-
-impl Bits for i64 {
-    #[inline(always)]
-    fn bits(self) -> i64 {
-        self
-    }
-}
+impl_bits!(bool, u8, i32, i64);
 
 impl Bits for u64 {
     #[inline(always)]
@@ -92,35 +75,15 @@ pub extern "C" fn zx_read_pairs_from(
         → (keys.new ≡ keys.old) × (values.new ≡ values.old) × (read.new ≡ read.old) }
 {
     let (which, bound, segment) = passed!(enter_with(alloc, h, key, from));
-    let code = read_pairs(&segment, &which, bound, past, keys, values, read);
-    put(code, h, segment)
-}
-
-/// Reads pairs of the map of a key in a segment into two series.
-fn read_pairs(
-    segment: &Segment,
-    key: &Key,
-    bound: ScalarValue,
-    past: bool,
-    keys: &mut [i64],
-    values: &mut [i64],
-    read: &mut usize,
-) -> u32
-    ensures read { (d : Directory) → DenotesCurrent segment.now.cut.bytes d
-        → IsCoded (λ ps. FillsSeries ps keys.old keys.new values.old values.new read.new) result
-        (pairs_from_at d (key_seen key.now) past (literal_seen bound)) }
-    ensures unchanged_on_error { 1 ≤ result
-        → (keys.new ≡ keys.old) × (values.new ≡ values.old) × (read.new ≡ read.old) }
-{
-    match map_of(segment, key) {
+    match map_of(&segment, &which) {
         Ok((object, of_keys, of_values)) => match bound.value_of(of_keys) {
             Ok(from) => {
-                *read = read_of_kinds(segment, object, from, past, of_values, keys, values);
-                DONE
+                *read = read_of_kinds(&segment, object, from, past, of_values, keys, values);
+                put(DONE, h, segment)
             }
-            Err(why) => code_of(why),
+            Err(why) => put(code_of(why), h, segment),
         },
-        Err(why) => code_of(why),
+        Err(why) => put(code_of(why), h, segment),
     }
 }
 
@@ -139,126 +102,73 @@ fn read_of_kinds(
     ensures { FillsFrom segment.now object (kind_of_scalar from) to past (value_of_scalar from) keys.old keys.new
         values.old values.new result }
 {
-    match (from, to) {
-        (ScalarValue::I64(at), ScalarKind::I64) => {
-            read_numbers(segment, object, at, past, keys, values)
-        }
-        _ => read_of_any(segment, object, from, past, to, keys, values),
-    }
+    by_value!(from, at => read_from_key(segment, object, at, past, to, keys, values))
 }
 
-/// Reads pairs of a located map from `i64` to `i64`. It is not inlined, so that it pays for no list but its own.
-#[inline(never)]
-fn read_numbers(
+/// Reads pairs of a located map of the type of `from` to the kind `to`.
+#[inline(always)]
+fn read_from_key<K: Bits>(
     segment: &Segment,
     object: Object,
-    from: i64,
-    past: bool,
-    keys: &mut [i64],
-    values: &mut [i64],
-) -> usize
-    requires { IsBound (MapOf I64 I64) object segment.now }
-    ensures { FillsFrom segment.now object I64 I64 past from keys.old keys.new values.old values.new result }
-{
-    let mut list = [(from, 0i64); WALK];
-    read_typed(segment, object, from, past, &mut list, keys, values)
-}
-
-/// Reads pairs of a located map of any two kinds.
-#[inline(never)]
-fn read_of_any(
-    segment: &Segment,
-    object: Object,
-    from: ScalarValue,
+    from: K,
     past: bool,
     to: ScalarKind,
     keys: &mut [i64],
     values: &mut [i64],
 ) -> usize
-    requires { IsBound (MapOf (kind_of_scalar from) to) object segment.now }
-    ensures { FillsFrom segment.now object (kind_of_scalar from) to past (value_of_scalar from) keys.old keys.new
-        values.old values.new result }
+    requires { IsBound (MapOf K.kind to) object segment.now }
+    ensures { FillsFrom segment.now object K.kind to past (K.whole from) keys.old keys.new values.old values.new
+        result }
 {
-    macro_rules! from_key {
-        ($at:ident) => {
-            match to {
-                ScalarKind::Bool => read_by!($at, false),
-                ScalarKind::U8 => read_by!($at, 0u8),
-                ScalarKind::I32 => read_by!($at, 0i32),
-                ScalarKind::I64 => read_by!($at, 0i64),
-                ScalarKind::U64 => read_by!($at, 0u64),
-            }
+    macro_rules! read {
+        ($type:ty, $kind:ident) => {
+            read_typed::<K, $type>(segment, object, from, past, keys, values)
         };
     }
-    macro_rules! read_by {
-        ($at:ident, $blank:expr) => {{
-            let mut list = [($at, $blank); WALK];
-            read_typed(segment, object, $at, past, &mut list, keys, values)
-        }};
-    }
-    by_value!(from, at => from_key!(at))
+    by_kind!(to, read)
 }
 
-/// Reads the pairs of a located map of two types, as many by a walk as the list has places for.
+/// Reads pairs of a located map of two types. It lists the nodes of up to 32 pairs at once.
 fn read_typed<K: Bits, V: Bits>(
     segment: &Segment,
     object: Object,
     from: K,
     past: bool,
-    list: &mut [(K, V)],
     keys: &mut [i64],
     values: &mut [i64],
 ) -> usize
-    requires object { IsBound (MapOf K.kind V.kind) object segment.now }
-    requires min_len { 1 ≤ length list.old }
-    requires max_len { length list.old ≤ 32 }
+    requires { IsBound (MapOf K.kind V.kind) object segment.now }
     ensures { FillsFrom segment.now object K.kind V.kind past (K.whole from) keys.old keys.new values.old values.new
         result }
 {
+    let map = Map::<K, V>::at(segment, object);
     let capacity = keys.len().min(values.len());
-    let (mut read, mut after, mut above) = (0, from, past);
-    'walks: while read < capacity {
-        let room = list.len().min(capacity - read);
-        let count = walk(segment, object, after, above, &mut list[..room]);
-        copy_bits(&list[..count], read, keys, values);
-        read += count;
-        if count < room {
-            return read;
+    let mut nodes = [0; MOST];
+    let (mut after, mut above) = (from, past);
+    let (mut read, mut at, mut count, mut room) = (0, 0, 0, 0);
+    'pairs: while read < capacity {
+        if at == count {
+            if count < room {
+                return read;
+            }
+            room = MOST.min(capacity - read);
+            count = map.nodes_from(after, above, &mut nodes[..room]);
+            at = 0;
+            if count == 0 {
+                return read;
+            }
         }
-        (after, above) = (list[room - 1].0, true);
+        match map.pair_of(nodes[at]) {
+            Some(pair) => {
+                let key_bits = pair.0.bits();
+                let value_bits = pair.1.bits();
+                keys[read] = key_bits;
+                values[read] = value_bits;
+                (after, above) = (pair.0, true);
+                (read, at) = (read + 1, at + 1);
+            }
+            None => return read,
+        }
     }
     read
-}
-
-/// Reads pairs of a located map of two types into the first places of a list, and returns how many they are.
-fn walk<K: Scalar, V: Scalar>(
-    segment: &Segment,
-    object: Object,
-    from: K,
-    past: bool,
-    list: &mut [(K, V)],
-) -> usize
-    requires object { IsBound (MapOf K.kind V.kind) object segment.now }
-    requires max_len { length list.old ≤ 32 }
-    ensures in_bounds { result ≤ length list.old }
-    ensures list { (d : Directory) → DenotesCurrent segment.now.cut.bytes d → ListsPairs K.whole V.whole
-        (pairs_past int_lt past (K.whole from) (pairs_at_kinds d (ByHandle object.handle) K.kind V.kind))
-        (length list.old) list.new result }
-{
-    let map = Map::<K, V>::at(segment, object);
-    map.read_from(from, past, list).min(list.len())
-}
-
-/// Writes the bits of pairs to two series, from a place on.
-fn copy_bits<K: Bits, V: Bits>(list: &[(K, V)], at: usize, keys: &mut [i64], values: &mut [i64])
-    requires keys { at + length list.now ≤ length keys.old }
-    requires values { at + length list.now ≤ length values.old }
-    ensures keys { keys.new ≡ written keys.old at (map (item_key K.whole) list.now) (length list.now) }
-    ensures values { values.new ≡ written values.old at (map (item_value V.whole) list.now) (length list.now) }
-{
-    'pairs: for i in 0..list.len() {
-        let (key, value) = list[i];
-        keys[at + i] = key.bits();
-        values[at + i] = value.bits();
-    }
 }

@@ -1,13 +1,12 @@
 //! Elements of arrays and vectors of scalars, several read or written by one call.
-ghost use Rattle.std.specs.Prelude.{◌≡◌, ◌≤◌, OnErr, length, map, pos};
+ghost use Rattle.std.specs.Prelude.{◌≡◌, OnErr, pos};
 ghost use Rattle.seg_types.specs.declared.kinds.ScalarKind.TheVariants.{Bool as BoolKind, I32 as I32Kind};
 ghost use Rattle.seg_types.specs.declared.kinds.ScalarKind.TheVariants.{I64 as I64Kind, U8 as U8Kind, U64 as U64Kind};
 ghost use Rattle.seg_types.specs.{Keys.key_seen, Kinds.truth_number};
 ghost use Rattle.segment_c.specs.Passed.{key_of, key_wrong, numbers_of, or_else, slice_of, slice_wrong};
-ghost use Rattle.segment_c.specs.{Handles.ChangesHandle, Passed.scalar_kind_in, Reads.IsCoded, Reads.ReadsRange};
+ghost use Rattle.segment_c.specs.{Handles.ChangesHandle, Passed.scalar_kind_in, Reads.ReadsRange};
 ghost use Rattle.segment_c.specs.Codes.{answer_for};
-ghost use Rattle.segment_manager.specs.{Answers.Done, containers.Ranges.range_at, containers.Ranges.WritesRange};
-ghost use Rattle.segment_manager.specs.{Directory.Directory, State.DenotesCurrent, State.done_answer};
+ghost use Rattle.segment_manager.specs.{Answers.Done, State.done_answer, containers.Ranges.WritesRange};
 
 use crate::calls::{enter, enter_slice, passed};
 use crate::codes::{DONE, code_of, done};
@@ -18,22 +17,6 @@ use seg_types::{Key, Refusal, Scalar, ScalarKind};
 use segment_manager::{Segment, locate};
 use segment_values::read_elements;
 use std::alloc::Global;
-
-/// Copies elements of the object of a key into a row, of a type.
-fn read_slice<T: Scalar>(segment: &Segment, key: &Key, first: u64, series: &mut [T]) -> u32
-    ensures read { (d : Directory) → DenotesCurrent segment.now.cut.bytes d
-        → IsCoded (λ zs. map T.whole series.new
-        ≡ zs) result (range_at d (key_seen key.now) T.kind first (length series.old)) }
-    ensures unchanged_on_error { 1 ≤ result → series.new ≡ series.old }
-{
-    match locate(segment, key) {
-        Ok(object) => match read_elements(segment, object, first, series) {
-            Ok(()) => DONE,
-            Err(why) => code_of(why),
-        },
-        Err(why) => code_of(why),
-    }
-}
 
 /// Copies elements of the array or vector of a key into a row, of a type: as many as the row has, from `first` on.
 fn read_range<T: Scalar>(
@@ -46,7 +29,13 @@ fn read_range<T: Scalar>(
     ensures { ReadsRange T.whole T.kind key.now first series.old series.new result h.old h.new }
 {
     let (which, segment) = passed!(enter(alloc, h, key));
-    put(read_slice(&segment, &which, first, series), h, segment)
+    match locate(&segment, &which) {
+        Ok(object) => match read_elements(&segment, object, first, series) {
+            Ok(()) => put(DONE, h, segment),
+            Err(why) => put(code_of(why), h, segment),
+        },
+        Err(why) => put(code_of(why), h, segment),
+    }
 }
 
 /// Copies elements of the array or vector of a key into a row of truths: as many as the row has, from `first` on.

@@ -1,6 +1,6 @@
 //! Reads the sizes and the bytes of containers.
 ghost use Rattle.std.specs.Prelude.{◌≡◌, ◌≢◌, ◌≤◌};
-ghost use Rattle.seg_types.specs.{Commands.Get, declared.kinds.Kind.TheVariants.Strings as StringsKind, Keys.key_seen};
+ghost use Rattle.seg_types.specs.{Commands.Get, declared.kinds.Kind.TheVariants.Strings as StringsKind};
 ghost use Rattle.segment_c.specs.Reads.{AreSizes, Copies, CopiesAnswer, IsCoded, CopiesBytes};
 ghost use Rattle.segment_c.specs.{Handles.ReadsHandle, Passed.key_of, Passed.key_wrong};
 ghost use Rattle.segment_manager.specs.{containers.Contents.bytes_at, containers.Contents.sizes_at, Step.step_of_kind};
@@ -11,8 +11,6 @@ use crate::codes::{DONE, code_of};
 use crate::images::copy_out;
 use crate::keys::ObjectKey;
 use crate::segment_slot::{SegmentSlot, put};
-use seg_types::Key;
-use segment_manager::Segment;
 use std::alloc::Global;
 
 /// Counts the elements (`len`) and the places (`slots`) of the vector or string of a key. For the map of a key, `len`
@@ -31,22 +29,13 @@ pub extern "C" fn zx_measure(
     ensures outputs_on_error { 1 ≤ result → (len.new ≡ len.old) × (slots.new ≡ slots.old) }
 {
     let (which, segment) = passed!(enter(alloc, h, key));
-    put(measure(&segment, &which, len, slots), h, segment)
-}
-
-/// Counts the elements and the places of the vector or string of a key in a segment, or the pairs of the key's map.
-fn measure(segment: &Segment, key: &Key, len: &mut u64, slots: &mut u64) -> u32
-    ensures read { (d : Directory) → DenotesCurrent segment.now.cut.bytes d
-        → IsCoded (AreSizes len.new slots.new) result (sizes_at d (key_seen key.now)) }
-    ensures unchanged_on_error { 1 ≤ result → (len.new ≡ len.old) × (slots.new ≡ slots.old) }
-{
-    match segment.measure(key) {
+    match segment.measure(&which) {
         Ok((elements, capacity)) => {
             *len = elements;
             *slots = capacity;
-            DONE
+            put(DONE, h, segment)
         }
-        Err(why) => code_of(why),
+        Err(why) => put(code_of(why), h, segment),
     }
 }
 
@@ -67,19 +56,12 @@ pub extern "C" fn zx_read_string(
     ensures length { 1 ≤ result → result ≢ 24 → len.new ≡ len.old }
 {
     let (which, segment) = passed!(enter(alloc, h, key));
-    put(read_string(&segment, &which, text, len), h, segment)
-}
-
-/// Copies the bytes of the string of a key in a segment to the front of a buffer.
-fn read_string(segment: &Segment, key: &Key, text: &mut [u8], len: &mut u64) -> u32
-    ensures read { (d : Directory) → DenotesCurrent segment.now.cut.bytes d
-        → Copies text.old text.new len.new result (bytes_at d (key_seen key.now)) }
-    ensures unchanged_on_error { 1 ≤ result → text.new ≡ text.old }
-    ensures length { 1 ≤ result → result ≢ 24 → len.new ≡ len.old }
-{
-    match segment.string_bytes(key) {
-        Ok(bytes) => copy_text(bytes, text, len),
-        Err(why) => code_of(why),
+    match segment.string_bytes(&which) {
+        Ok(bytes) => {
+            let code = copy_text(bytes, text, len);
+            put(code, h, segment)
+        }
+        Err(why) => put(code_of(why), h, segment),
     }
 }
 
@@ -102,20 +84,12 @@ pub extern "C" fn zx_read_text(
     ensures length { 1 ≤ result → result ≢ 24 → len.new ≡ len.old }
 {
     let (which, segment) = passed!(enter(alloc, h, key));
-    put(read_text(&segment, &which, index, text, len), h, segment)
-}
-
-/// Copies the text at `index` in the vector of strings of a key in a segment to the front of a buffer.
-fn read_text(segment: &Segment, key: &Key, index: u64, text: &mut [u8], len: &mut u64) -> u32
-    ensures read { (d : Directory) → DenotesCurrent segment.now.cut.bytes d
-        → CopiesAnswer text.old text.new len.new result
-        (step_of_kind segment.now.mode d (key_seen key.now) StringsKind (Get (key_seen key.now) index)).0 }
-    ensures unchanged_on_error { 1 ≤ result → text.new ≡ text.old }
-    ensures length { 1 ≤ result → result ≢ 24 → len.new ≡ len.old }
-{
-    match segment.texts_get(key, index) {
-        Ok(bytes) => copy_text(bytes, text, len),
-        Err(why) => code_of(why),
+    match segment.texts_get(&which, index) {
+        Ok(bytes) => {
+            let code = copy_text(bytes, text, len);
+            put(code, h, segment)
+        }
+        Err(why) => put(code_of(why), h, segment),
     }
 }
 

@@ -2,10 +2,10 @@
 ghost use Rattle.std.specs.Prelude.{◌≡◌, ◌≤◌};
 ghost use Rattle.seg_types.specs.Commands.{AllDeallocated, Clear, Reserve, ReserveNamed, ReserveUnique, Sanity};
 ghost use Rattle.seg_types.specs.Commands.{Shrink, ShrinkIndexes, ZeroFree};
-ghost use Rattle.segment_c.specs.Handles.{ChangesHandle, MakesInHandle, AsksSegment, AsksHandle};
+ghost use Rattle.segment_c.specs.Handles.{AsksSegment, DoesCommand, MakesInHandle};
 ghost use Rattle.segment_c.specs.{Calls.ReachesSegment, Codes.answer_for, Passed.key_of, Passed.key_wrong};
 ghost use Rattle.segment_manager.specs.{Answers.Boolean, Answers.Done, Keeping.HasCapacity, Keeping.UnchangedWhere};
-ghost use Rattle.segment_manager.specs.{Calls.HasZeroGaps, State.AnswersQuery, State.TakesStep};
+ghost use Rattle.segment_manager.specs.{Calls.HasZeroGaps, State.TakesStep};
 
 use crate::calls::{enter, passed};
 use crate::changes::{ObjectChange, make_change};
@@ -22,8 +22,7 @@ pub extern "C" fn zx_reserve(
     key: &ObjectKey<'_>,
     slots: u64,
 ) -> u32
-    ensures call { ChangesHandle (key_wrong key.now) result h.old h.new
-        (λ s t. TakesStep s t (Reserve (key_of key.now) slots) (answer_for result Done)) }
+    ensures call { DoesCommand (key_wrong key.now) (Reserve (key_of key.now) slots) result h.old h.new }
     ensures noop { ReachesSegment (key_wrong key.now) result h.old.segment.value h.new.segment.value (λ s t.
         UnchangedWhere s t (HasCapacity (key_of key.now) slots)) }
 {
@@ -34,8 +33,7 @@ pub extern "C" fn zx_reserve(
 /// Gives back the places of the vector or string of a key that have no element.
 #[unsafe(no_mangle)]
 pub extern "C" fn zx_trim(alloc: Global, h: &mut SegmentSlot, key: &ObjectKey<'_>) -> u32
-    ensures call { ChangesHandle (key_wrong key.now) result h.old h.new
-        (λ s t. TakesStep s t (Shrink (key_of key.now)) (answer_for result Done)) }
+    ensures call { DoesCommand (key_wrong key.now) (Shrink (key_of key.now)) result h.old h.new }
 {
     make_change(alloc, h, key, ObjectChange::Trim)
 }
@@ -43,8 +41,7 @@ pub extern "C" fn zx_trim(alloc: Global, h: &mut SegmentSlot, key: &ObjectKey<'_
 /// Takes all elements out of the vector or string of a key.
 #[unsafe(no_mangle)]
 pub extern "C" fn zx_clear(alloc: Global, h: &mut SegmentSlot, key: &ObjectKey<'_>) -> u32
-    ensures call { ChangesHandle (key_wrong key.now) result h.old h.new
-        (λ s t. TakesStep s t (Clear (key_of key.now)) (answer_for result Done)) }
+    ensures call { DoesCommand (key_wrong key.now) (Clear (key_of key.now)) result h.old h.new }
 {
     make_change(alloc, h, key, ObjectChange::Clear)
 }
@@ -76,8 +73,7 @@ pub extern "C" fn zx_reserve_unique(alloc: Global, h: &mut SegmentSlot, slots: u
 /// Gives back the room of the indexes that no entry uses.
 #[unsafe(no_mangle)]
 pub extern "C" fn zx_shrink_indexes(alloc: Global, h: &mut SegmentSlot) -> u32
-    ensures call { ChangesHandle 0 result h.old h.new
-        (λ s t. TakesStep s t ShrinkIndexes (answer_for result Done)) }
+    ensures call { DoesCommand 0 ShrinkIndexes result h.old h.new }
 {
     let mut segment = passed!(take(alloc, h));
     done(segment.shrink_indexes(), h, segment)
@@ -86,8 +82,7 @@ pub extern "C" fn zx_shrink_indexes(alloc: Global, h: &mut SegmentSlot) -> u32
 /// Makes the free bytes 0 that are no part of a tag.
 #[unsafe(no_mangle)]
 pub extern "C" fn zx_zero_free(alloc: Global, h: &mut SegmentSlot) -> u32
-    ensures call { ChangesHandle 0 result h.old h.new
-        (λ s t. TakesStep s t ZeroFree (answer_for result Done)) }
+    ensures call { DoesCommand 0 ZeroFree result h.old h.new }
     ensures zeros { ReachesSegment 0 result h.old.segment.value h.new.segment.value (λ s t. result ≡ 0
         → HasZeroGaps t) }
 {
@@ -98,7 +93,7 @@ pub extern "C" fn zx_zero_free(alloc: Global, h: &mut SegmentSlot) -> u32
 /// Sets `is_whole` to the result of the sanity check, which holds of each segment, and returns a code.
 #[unsafe(no_mangle)]
 pub extern "C" fn zx_sanity(alloc: Global, h: &mut SegmentSlot, is_whole: &mut bool) -> u32
-    ensures call { AsksSegment Boolean Sanity result h.old h.new is_whole.old is_whole.new }
+    ensures call { AsksSegment Boolean 0 Sanity result h.old h.new is_whole.old is_whole.new }
 {
     let segment = passed!(take(alloc, h));
     *is_whole = segment.sanity();
@@ -108,7 +103,7 @@ pub extern "C" fn zx_sanity(alloc: Global, h: &mut SegmentSlot, is_whole: &mut b
 /// Sets `is_empty` to true if no block is in use, index blocks included, and returns a code.
 #[unsafe(no_mangle)]
 pub extern "C" fn zx_all_deallocated(alloc: Global, h: &mut SegmentSlot, is_empty: &mut bool) -> u32
-    ensures call { AsksSegment Boolean AllDeallocated result h.old h.new is_empty.old is_empty.new }
+    ensures call { AsksSegment Boolean 0 AllDeallocated result h.old h.new is_empty.old is_empty.new }
 {
     let segment = passed!(take(alloc, h));
     *is_empty = segment.all_deallocated();

@@ -3,13 +3,13 @@ ghost use Rattle.std.specs.Prelude.{◌≡◌, ◌≤◌, ℕ, MatchResult, OnEr
 ghost use Rattle.seg_types.specs.Commands.{Assign, Construct, ConstructIt, Elements, FindOrConstruct, literal_of};
 ghost use Rattle.seg_types.specs.declared.kinds.Kind.TheVariants.{Scalar as ScalarOf, Vector as VectorOf};
 ghost use Rattle.seg_types.specs.Keys.{index_key_seen, key_seen, new_key_seen};
-ghost use Rattle.segment_c.specs.Passed.{count_wrong, entry_of, entry_wrong, key_of, key_wrong, many_of, new_of};
-ghost use Rattle.segment_c.specs.Passed.{new_wrong, numbers_of, or_else, slice_count, slice_of, slice_wrong};
-ghost use Rattle.segment_c.specs.{Handles.ChangesHandle, Handles.MakesInHandle, Making.FindsOrMakesObject};
-ghost use Rattle.segment_c.specs.{Codes.answer_for, Passed.scalar_kind_in};
+ghost use Rattle.segment_c.specs.Passed.{count_wrong, entry_wrong, key_of, key_wrong, many_of, new_of, new_wrong};
+ghost use Rattle.segment_c.specs.Passed.{numbers_of, or_else, scalar_kind_in, slice_count, slice_of, slice_wrong};
+ghost use Rattle.segment_c.specs.{Handles.ChangesHandle, Handles.MakesInHandle, Making.TellsMade};
+ghost use Rattle.segment_c.specs.{Codes.answer_for, Making.TellsFoundOrMade};
 ghost use Rattle.segment_manager.specs.State.{TakesStep, TakesStepOfKind, UnchangedIfRefused as KeepsOld, done_answer};
 ghost use Rattle.segment_manager.specs.{Keeping.IsBoundKey, Keeping.UnchangedWhere, objects.Found.found_object_answer};
-ghost use Rattle.segment_manager.specs.{Answers.Done, Answers.Found, Answers.Made, containers.Ranges.ExtendsVector};
+ghost use Rattle.segment_manager.specs.{Answers.Done, Answers.Made, containers.Ranges.ExtendsVector};
 ghost use Rattle.segment_manager.specs.{objects.NewObjects.IsOfKind, State.handle_answer};
 
 use crate::calls::{enter_entry, enter_new, enter_slice, passed};
@@ -91,11 +91,10 @@ pub extern "C" fn zx_construct_vector(
     values: &CScalars<'_>,
     handle: &mut u64,
 ) -> u32
-    ensures call { MakesInHandle (or_else (slice_wrong values.now)
-        (new_wrong key.now (VectorOf (scalar_kind_in values.now.kind)))) result h.old h.new
-        (λ s t. TakesStep s t (Construct (new_of key.now (VectorOf (scalar_kind_in values.now.kind)))
-        (Elements (scalar_kind_in values.now.kind) (slice_of values.now))) (answer_for result (Made handle.new))) }
-    ensures outputs_on_error { 1 ≤ result → handle.new ≡ handle.old }
+    ensures { TellsMade
+        (or_else (slice_wrong values.now) (new_wrong key.now (VectorOf (scalar_kind_in values.now.kind)))) key.now
+        (VectorOf (scalar_kind_in values.now.kind)) (Elements (scalar_kind_in values.now.kind) (slice_of values.now))
+        result h.old h.new handle.old handle.new }
 {
     let kind = passed!(values.scalar_kind());
     let (which, mut segment) = passed!(enter_new(alloc, h, key, Kind::Vector(kind)));
@@ -113,12 +112,10 @@ pub extern "C" fn zx_find_or_construct_vector(
     handle: &mut u64,
     count_found: &mut u32,
 ) -> u32
-    ensures call { MakesInHandle (or_else (slice_wrong values.now)
-        (entry_wrong key.now (VectorOf (scalar_kind_in values.now.kind)))) result h.old h.new
-        (λ s t. FindsOrMakesObject s t (entry_of key.now (VectorOf (scalar_kind_in values.now.kind)))
-        (Elements (scalar_kind_in values.now.kind) (slice_of values.now))
-        (answer_for result (Found handle.new count_found.new))) }
-    ensures outputs_on_error { 1 ≤ result → (handle.new ≡ handle.old) × (count_found.new ≡ count_found.old) }
+    ensures { TellsFoundOrMade
+        (or_else (slice_wrong values.now) (entry_wrong key.now (VectorOf (scalar_kind_in values.now.kind)))) key.now
+        (VectorOf (scalar_kind_in values.now.kind)) (Elements (scalar_kind_in values.now.kind) (slice_of values.now))
+        result h.old h.new handle.old handle.new count_found.old count_found.new }
 {
     let kind = passed!(values.scalar_kind());
     let (which, mut segment) = passed!(enter_entry(alloc, h, key, Kind::Vector(kind)));

@@ -1,21 +1,25 @@
 //! Where elements stand, for C that reads and writes them there.
 ghost use denote.RawPtr.{block_ptr};
-ghost use Rattle.std.specs.Prelude.{◌≡◌, ◌≤◌, IfOk};
+ghost use Rattle.std.specs.Prelude.{◌≡◌, ◌≤◌, IfOk, true};
 ghost use Rattle.seg_types.specs.{Keys.key_seen, Names.ByHandle};
 ghost use Rattle.segment_c.specs.{Handles.ReadsHandle, Views.HasView, Views.IsView, Views.TellsView, Views.writable};
 ghost use Rattle.segment_c.specs.{Calls.HoldsSegment, Calls.PerformsRead, Passed.key_of, Passed.key_wrong};
 ghost use Rattle.segment_c.specs.{Marked.LendsRange, Reads.IsCoded};
 ghost use Rattle.segment_manager.specs.containers.ElementRuns.{IsRunOf, run_at};
 ghost use Rattle.segment_manager.specs.{Directory.Directory, State.AnswersWith, State.DenotesCurrent};
+ghost use Rattle.segment_manager.specs.objects.Found.{is_object_at};
 
 use crate::calls::{enter, passed};
 use crate::codes::{DONE, READ_ONLY, code_of};
 use crate::keys::ObjectKey;
 use crate::segment_slot::{Marks, SegmentSlot, put, put_taken_back, take};
-use seg_types::{Key, Refusal};
-use segment_manager::unchecked::{element_run_of, object_here};
+use seg_types::{Handle, Key, Kind, Refusal, ScalarKind};
+use segment_manager::unchecked::{element_run_of, object_here, object_of_kind};
 use segment_manager::{ElementRun, Mode, Segment, is_remembered};
 use std::alloc::Global;
+
+/// The kind of vectors of `i64`.
+const NUMBERS: Kind = Kind::Vector(ScalarKind::I64);
 
 /// Elements that stand one after another. The fields say where the first stands, its offset in the segment, how many
 /// there are, the handle's counter of changes, and the code of their kind.
@@ -64,13 +68,26 @@ pub extern "C" fn zx_view_of(
 {
     let segment = passed!(take(alloc, h));
     if is_remembered(&segment, handle) {
-        let object = object_here(&segment, handle);
-        let run = element_run_of(&segment, object);
+        let run = run_here(&segment, handle);
         let code = fill_view(&segment, &Key::Handle(handle), run, &h.marks, view);
         return put_taken_back(code, h, segment);
     }
     put_taken_back(DONE, h, segment);
     view_any(alloc, h, &ObjectKey::of_handle(handle), view)
+}
+
+/// Returns where the elements of the object of a handle stand. A vector of `i64`, the kind that is read most, is found
+/// without decoding a kind.
+#[inline(always)]
+fn run_here(segment: &Segment, handle: Handle) -> Result<ElementRun, Refusal>
+    requires { AnswersWith segment.now (λ d. is_object_at d handle) true }
+    ensures run { AnswersWith segment.now (λ d. run_at d (ByHandle handle)) result }
+    ensures bytes { IfOk result (IsRunOf segment.now (ByHandle handle)) }
+{
+    match object_of_kind(segment, handle, NUMBERS) {
+        Ok(object) => element_run_of(segment, object),
+        Err(_) => element_run_of(segment, object_here(segment, handle)),
+    }
 }
 
 /// Says where the elements of the object of a key stand, for any form of key.
@@ -101,25 +118,20 @@ pub extern "C" fn zx_view_mut(
     ensures marks { LendsRange result h.old.marks h.new.marks }
 {
     let (which, segment) = passed!(enter(alloc, h, key));
-    let code = fill_view_mut(&segment, &which, &h.marks, view);
+    if segment.mode() == Mode::ReadOnly {
+        return put(READ_ONLY, h, segment);
+    }
+    let code = fill_view(
+        &segment,
+        &which,
+        segment.element_run(&which),
+        &h.marks,
+        view,
+    );
     if code == DONE {
         h.marks.is_shared = true;
     }
     put(code, h, segment)
-}
-
-/// Fills a view of elements of a segment that C is to write.
-fn fill_view_mut(segment: &Segment, key: &Key, marks: &Marks, view: &mut CView) -> u32
-    ensures read { (d : Directory) → DenotesCurrent segment.now.cut.bytes d
-        → IsCoded (IsView view.new) result (writable segment.now.mode (run_at d (key_seen key.now))) }
-    ensures bytes { result ≡ 0 → HasView segment.now (key_seen key.now) view.new }
-    ensures current { result ≡ 0 → view.new.changes ≡ marks.now.changes }
-    ensures unchanged_on_error { 1 ≤ result → view.new ≡ view.old }
-{
-    if segment.mode() == Mode::ReadOnly {
-        return READ_ONLY;
-    }
-    fill_view(segment, key, segment.element_run(key), marks, view)
 }
 
 /// Returns where the elements of the object of a key stand, which `run` says.

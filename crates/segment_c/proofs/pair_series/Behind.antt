@@ -1,9 +1,12 @@
--- The pairs above the key of a pair of a map are those behind it.
-use Rattle.std.proofs.Common.{◌≡◌, refl, sym, ap, subst, ◌∙◌, ℕ, suc, ◌<◌, ℤ, Bool, true, false, not, List, [], ◌∷◌}
-use Rattle.std.proofs.Common.{◌++◌, arith, if◌then◌else◌, int_lt, length, take, drop, get_or}
-use Rattle.std.proofs.{lemmas.List.append_assoc, lemmas.List.take-append-drop, Math.Seq.drop-cons}
+-- The pairs of a map from a key on: the first of them is one of the map's pairs, and the others are above its key.
+use Rattle.std.proofs.Common.{◌≡◌, refl, sym, ap, subst, ◌∙◌, ◌<◌, ℤ, Bool, true, false, not, List, [], ◌∷◌, arith}
+use Rattle.std.proofs.Common.{if◌then◌else◌, int_lt}
+use Rattle.std.proofs.lemmas.Bool.{eq-eqb, or_left, or_right}
+use Rattle.std.specs.Prelude.{nat_eq}
 use Rattle.raw_region.proofs.Facts.{first, second}
-use Rattle.seg_map.specs.{Listing.pairs_past, Map.is_rising, Numbers.NumberPair, Places.is_passed}
+use Rattle.link_tree.specs.Nodes.{is_in}
+use Rattle.seg_map.specs.{Listing.pairs_past, Map.is_rising, Numbers.NumberPair}
+use Rattle.seg_map.specs.Places.{is_passed, nodes_of_pairs, pair_node}
 use Rattle.seg_types.specs.ScalarLaws.{irreflexive, transitive}
 
 abbrev Rises : List NumberPair → Type 0
@@ -36,57 +39,64 @@ ahead-all past z p (q ∷ qs) r e =
     let it : is_passed int_lt past z q ≡ false = further past z p.key q.key e (next-above p q qs r) in
     ap (kept past z q qs) it ∙ ap (λ ts. q ∷ ts) (ahead-all past z q qs (rest-rises p (q ∷ qs) r) it)
 
--- what is not passed is the end of the list
-record IsEnd (ps end : List NumberPair) : Type 0 where
-  front : List NumberPair
-  is : ps ≡ front ++ end
-
-ends : (past : Bool) (z : ℤ) (ps : List NumberPair) → Rises ps → IsEnd ps (pairs_past int_lt past z ps)
-ends past z [] r = record { front = []; is = refl }
-ends past z (p ∷ ps) r = by_cases (ends past z ps (rest-rises p ps r)) (is_passed int_lt past z p) refl
-  where
-    by_cases : IsEnd ps (pairs_past int_lt past z ps) → (b : Bool) → is_passed int_lt past z p ≡ b
-        → IsEnd (p ∷ ps) (pairs_past int_lt past z (p ∷ ps))
-    by_cases s true e =
-        record {
-          front = p ∷ s.front;
-          is = ap (λ qs. p ∷ qs) s.is
-              ∙ ap (λ b. p ∷ (s.front ++ kept past z p ps b)) (sym e);
-        }
-    by_cases s false e =
-        record { front = []; is = sym (ap (kept past z p ps) e ∙ ap (λ qs. p ∷ qs) (ahead-all past z p ps r e)) }
-
 all-above : (p : NumberPair) (back : List NumberPair) → Rises (p ∷ back) → pairs_past int_lt true p.key back ≡ back
 all-above p [] r = refl
 all-above p (q ∷ qs) r =
     let it : is_passed int_lt true p.key q ≡ false = ap not (next-above p q qs r) in
     ap (kept true p.key q qs) it ∙ ap (λ ts. q ∷ ts) (ahead-all true p.key q qs (rest-rises p (q ∷ qs) r) it)
 
-below-end : (q : NumberPair) (front : List NumberPair) (p : NumberPair) (back : List NumberPair)
-    → Rises (q ∷ (front ++ p ∷ back)) → int_lt q.key p.key ≡ true
-below-end q [] p back r = next-above q p back r
-below-end q (s ∷ front) p back r = transitive q.key s.key p.key (next-above q s (front ++ p ∷ back) r)
-    (below-end s front p back (rest-rises q (s ∷ (front ++ p ∷ back)) r))
+module _ (past : Bool) (z : ℤ) where
+  abbrev from : List NumberPair → List NumberPair
+  from ps = pairs_past int_lt past z ps
 
-above-is : (front : List NumberPair) (p : NumberPair) (back : List NumberPair) → Rises (front ++ p ∷ back)
-    → pairs_past int_lt true p.key (front ++ p ∷ back) ≡ back
-above-is [] p back r = ap (λ b. kept true p.key p back (not b)) (irreflexive p.key) ∙ all-above p back r
-above-is (q ∷ front) p back r =
-    ap (λ b. kept true p.key q (front ++ p ∷ back) (not b)) (not-above q.key p.key (below-end q front p back r))
-    ∙ above-is front p back (rest-rises q (front ++ p ∷ back) r)
+  -- the first pair that is not passed is above each pair before it
+  found-above : (p : NumberPair) (qs : List NumberPair) (q : NumberPair) (rest : List NumberPair) → Rises (p ∷ qs)
+      → from qs ≡ q ∷ rest → int_lt p.key q.key ≡ true
+  found-above p [] q rest r e = absurd (cc)
+  found-above p (s ∷ qs) q rest r e =
+      by_cases (λ h. found-above s qs q rest (rest-rises p (s ∷ qs) r) h) (is_passed int_lt past z s) refl
+    where
+      by_cases : (from qs ≡ q ∷ rest → int_lt s.key q.key ≡ true) → (b : Bool) → is_passed int_lt past z s ≡ b
+          → int_lt p.key q.key ≡ true
+      by_cases next true f =
+          transitive p.key s.key q.key (next-above p s qs r) (next (sym (ap (kept past z s qs) f) ∙ e))
+      by_cases next false f =
+          let two : s ∷ from qs ≡ q ∷ rest = sym (ap (kept past z s qs) f) ∙ e in
+          let same : s ≡ q = cc in
+          subst (λ (x : NumberPair). int_lt p.key x.key ≡ true) same (next-above p s qs r)
 
--- the pairs above the key of the pair with an index are those behind it
-pub goes-on : (past : Bool) (z : ℤ) (ps : List NumberPair) → is_rising int_lt ps ≡ true → (n : ℕ) (d : NumberPair)
-    → n < length (pairs_past int_lt past z ps)
-    → pairs_past int_lt true (get_or (pairs_past int_lt past z ps) n d).key ps
-    ≡ drop (suc n) (pairs_past int_lt past z ps)
-goes-on past z ps r n d less =
-    let all = pairs_past int_lt past z ps in
-    let s = ends past z ps r in
-    let p = get_or all n d in
-    let back = drop (suc n) all in
-    let is : ps ≡ (s.front ++ take n all) ++ p ∷ back = s.is
-    ∙ ap (λ ts. s.front ++ ts) (sym (take-append-drop n all) ∙ ap (λ ts. take n all ++ ts) (drop-cons all n d less))
-    ∙ sym (append_assoc s.front (take n all) (p ∷ back)) in
-    ap (pairs_past int_lt true p.key) is
-    ∙ above-is (s.front ++ take n all) p back (subst (λ qs. is_rising int_lt qs ≡ true) is r)
+  -- the pairs above the key of the first pair are the others
+  pub others-above : (ps : List NumberPair) (q : NumberPair) (rest : List NumberPair) → is_rising int_lt ps ≡ true
+      → from ps ≡ q ∷ rest → pairs_past int_lt true q.key ps ≡ rest
+  others-above [] q rest r e = absurd (cc)
+  others-above (p ∷ qs) q rest r e =
+      by_cases (λ h. others-above qs q rest (rest-rises p qs r) h) (is_passed int_lt past z p) refl
+    where
+      by_cases : (from qs ≡ q ∷ rest → pairs_past int_lt true q.key qs ≡ rest) → (b : Bool)
+          → is_passed int_lt past z p ≡ b → pairs_past int_lt true q.key (p ∷ qs) ≡ rest
+      by_cases next true f =
+          let it : from qs ≡ q ∷ rest = sym (ap (kept past z p qs) f) ∙ e in
+          ap (λ b. kept true q.key p qs (not b)) (not-above p.key q.key (found-above p qs q rest r it)) ∙ next it
+      by_cases next false f =
+          let two : p ∷ from qs ≡ q ∷ rest = sym (ap (kept past z p qs) f) ∙ e in
+          let same : p ≡ q = cc in
+          let behind : from qs ≡ rest = cc in
+          subst (λ (x : NumberPair). pairs_past int_lt true x.key (p ∷ qs) ≡ rest) same
+          (ap (λ b. kept true p.key p qs (not b)) (irreflexive p.key) ∙ all-above p qs r
+          ∙ sym (ahead-all past z p qs r f) ∙ behind)
+
+  -- the first pair is one of the pairs
+  pub among : (ps : List NumberPair) (q : NumberPair) (rest : List NumberPair) → from ps ≡ q ∷ rest
+      → is_in (pair_node q) (nodes_of_pairs ps) ≡ true
+  among [] q rest e = absurd (cc)
+  among (p ∷ ps) q rest e = by_cases (λ h. among ps q rest h) (is_passed int_lt past z p) refl
+    where
+      by_cases : (from ps ≡ q ∷ rest → is_in (pair_node q) (nodes_of_pairs ps) ≡ true) → (b : Bool)
+          → is_passed int_lt past z p ≡ b → is_in (pair_node q) (nodes_of_pairs (p ∷ ps)) ≡ true
+      by_cases next true f = or_right (nat_eq (pair_node q) (pair_node p)) (is_in (pair_node q) (nodes_of_pairs ps))
+          (next (sym (ap (kept past z p ps) f) ∙ e))
+      by_cases next false f =
+          let two : p ∷ from ps ≡ q ∷ rest = sym (ap (kept past z p ps) f) ∙ e in
+          let same : p ≡ q = cc in
+          or_left (nat_eq (pair_node q) (pair_node p)) (is_in (pair_node q) (nodes_of_pairs ps))
+          (eq-eqb (pair_node q) (pair_node p) (sym (ap pair_node same)))

@@ -2,6 +2,9 @@ use Rattle.std.proofs.Common.{◌∙◌, sym}
 use Rattle.segment_c.proofs.segment_slot.GoingOn.{asks}
 use Rattle.segment_c.proofs.elements.zx_get.Goals as goal
 
-pub returns-clause-call : goal.returns-clause-call
-returns-clause-call c = asks (c.put_taken_back-2.ensures.effect ∙ sym c.in-Ok.ensures.transfer.0)
-    (c.put_taken_back-2.ensures.marks ∙ c.take.ensures.marks) c.get_any-2.ensures.call
+pub returns : goal.returns
+returns c = record {
+  call = asks (c.put_taken_back-2.ensures.effect ∙ sym c.in-Ok.ensures.transfer.0)
+      (c.put_taken_back-2.ensures.marks ∙ c.take.ensures.marks) c.get_any-2.ensures.call;
+  outputs_on_error = c.get_any-2.ensures.outputs_on_error;
+}

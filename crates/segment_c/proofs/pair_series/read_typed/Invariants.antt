@@ -1,24 +1,21 @@
--- `read` pairs are read. The rest of the pairs are above the key of the last one.
+-- This many pairs are read, and the nodes of the next pairs are listed.
 use Rattle.segment_c.proofs.pair_series.read_typed.Given as goal
-use Rattle.std.proofs.Common.{◌≡◌, ◌≤◌, ◌-◌, drop, int_lt, length}
-use Rattle.seg_map.specs.Listing.{pairs_past}
+use Rattle.std.proofs.Common.{◌≡◌, ◌≤◌, ◌<◌, ◌-◌, drop, length, take}
 use Rattle.seg_types.specs.Names.{ByHandle}
 use Rattle.segment_manager.specs.{containers.Walks.pairs_at_kinds, Directory.Directory, State.DenotesCurrent}
-use Rattle.segment_c.specs.Series.{key_bits, value_bits}
-use Rattle.segment_c.proofs.pair_series.Filled.{Has}
+use Rattle.segment_c.proofs.pair_series.Walk.{IsAt}
 
-abbrev pub invariant-walks : goal.invariant-walks
-invariant-walks g l = record {
+abbrev pub invariant-pairs : goal.invariant-pairs
+invariant-pairs g l = record {
   within : l.read ≤ l.capacity;
-  pairs : (d : Directory) → DenotesCurrent l.segment.cut.bytes d →
-      let its = pairs_at_kinds d (ByHandle l.object.handle) g.K.Scalar.kind g.V.Scalar.kind in
-      let all = pairs_past int_lt l.fn.past (g.K.Scalar.whole l.fn.from) its in record {
-        there : l.read ≤ length all;
-        rest : pairs_past int_lt l.above (g.K.Scalar.whole l.after) its ≡ drop l.read all;
-        keys : Has key_bits l.fn.keys all l.keys l.read;
-        values : Has value_bits l.fn.values all l.values l.read;
-      };
+  listed : l.at ≤ l.count;
+  few : l.count ≤ 32;
+  long : length l.nodes ≡ 32;
+  walk : (d : Directory) → DenotesCurrent l.segment.cut.bytes d
+      → IsAt (pairs_at_kinds d (ByHandle l.fn.object.handle) g.K.Scalar.kind g.V.Scalar.kind) l.fn.past
+      (g.K.Scalar.whole l.fn.from) l.fn.keys l.fn.values l.read l.above (g.K.Scalar.whole l.after)
+      (drop l.at (take l.count l.nodes)) (l.count < l.room) l.keys l.values;
 }
 
-abbrev pub decreases-walks : goal.decreases-walks
-decreases-walks g l = l.capacity - l.read
+abbrev pub decreases-pairs : goal.decreases-pairs
+decreases-pairs g l = l.capacity - l.read

@@ -1,5 +1,5 @@
 //! The running of a script on a segment, whose answers are given out.
-ghost use Rattle.std.specs.Prelude.{◌^◌, ◌-◌, ◌<◌};
+ghost use Rattle.std.specs.Prelude.{◌^◌, ◌-◌, ◌<◌, Bool};
 ghost use Rattle.raw_region.specs.Device.{read_delta, write_delta};
 ghost use Rattle.segment_disk.specs.Events.{IsFlushed};
 ghost use Rattle.segment_commands.specs.Running.{RunsScript};
@@ -16,6 +16,10 @@ use segment_scripts::{End, RunObserver, Until};
 pub(crate) struct Flushing;
 
 impl<O: LineOutput> RunObserver<O> for Flushing {
+    ghost opens = { λ old out new out'. (ok : Bool) × O.flushes out ok out' };
+
+    ghost turns = { λ old out new out'. O.turns out out' };
+
     fn before_read(&mut self, out: &mut O) {
         let _ = out.flush();
     }

@@ -4,3 +4,4 @@ pub mod Judgement
 pub mod Portable
 pub mod DumpObjects
 pub mod Placed
+pub mod Dropped

@@ -1,5 +1,6 @@
 -- Reading a text line by line, and a line word by word: whatever is spelled in front is read.
-use Rattle.std.specs.Prelude.{◌≡◌, ◌≤◌, ℕ, List, [], ◌++◌, Option, Some, None, Result, Ok, Err, length, option_map}
+use Rattle.std.specs.Prelude.{◌≡◌, ◌≤◌, ℕ, List, [], ◌++◌, Option, Some, None, Result, Ok, Err, codes, length}
+use Rattle.std.specs.Prelude.{option_map}
 use Rattle.std.specs.Borrow.{Bor}
 use Rattle.seg_types.specs.{declared.kinds.ScalarKind.ScalarKind, Values.scalar_of}
 use Rattle.seg_types.specs.declared.values.ScalarValue.{ScalarValue}
@@ -60,6 +61,18 @@ pub record ReadsThis {E : Type 0} (token text rest : List ℕ) (result : Result 
 -- nothing is left
 pub record ReadsEnd {E : Type 0} (text : List ℕ) (result : Result (Unit {0}) E) : Type 0 where
   pub reads : text ≡ [] → result ≡ Ok tt
+
+-- the first line of the text begins with the three words of the version
+pub record BeginsWithVersion (text : List ℕ) : Type 0 where
+  pub line : List ℕ
+  pub rest : List ℕ
+  pub is : text ≡ ended line ++ rest
+  pub behind_segment : List ℕ
+  pub first : next_token line ≡ Some (Bare (codes "segment"), behind_segment)
+  pub behind_dump : List ℕ
+  pub second : next_token behind_segment ≡ Some (Bare (codes "dump"), behind_dump)
+  pub behind_one : List ℕ
+  pub third : next_token behind_dump ≡ Some (Bare (codes "1"), behind_one)
 
 -- a word that stands for the bytes
 pub data IsTokenOf (bytes : List ℕ) : Token → Type 0 where

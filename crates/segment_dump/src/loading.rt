@@ -1,19 +1,22 @@
 //! A segment built from a dump. The lines are executed, and then the segment is compared with the whole text, so that
 //! no line needs to be trusted.
-ghost use Rattle.std.specs.Prelude.{◌≡◌, ◌↔◌, ◌%◌, length, IfOk, IfSome, IsTrue, MatchResult, Some, None};
+ghost use Rattle.std.specs.Prelude.{◌≡◌, ◌↔◌, ◌%◌, ◌++◌, ℕ, List, length, IfOk, IfSome, IsTrue, MatchResult, OnOk};
+ghost use Rattle.std.specs.Prelude.{Some, None};
 ghost use Rattle.std.specs.Bool.{OnTrue};
 ghost use Rattle.best_fit.specs.Ends.{EndsAt};
 ghost use Rattle.raw_region.specs.Memory.{SameSurroundings};
+ghost use Rattle.segment_lang.specs.{Lexing.Bare, Tokens.next_token};
 ghost use Rattle.segment_manager.specs.declared.modes.Mode.TheVariants.{Write};
 ghost use Rattle.segment_dump.specs.Counting.{IsDumpPrefix, fronted};
 ghost use Rattle.segment_dump.specs.Notes.{without_notes};
-ghost use Rattle.segment_dump.specs.Reads.{Any};
+ghost use Rattle.segment_dump.specs.Lines.{BeginsWithVersion};
+ghost use Rattle.segment_dump.specs.Reads.{Any, ended};
 ghost use Rattle.segment_dump.specs.Succeeding.{AreNumbers, IsNumber, JudgesDump, LiesOf, MakesObjects, ReadsLead};
 ghost use Rattle.segment_dump.specs.Succeeding.{IndexesOf, KeepsIndexes, Sizes};
 ghost use Rattle.segment_dump.specs.Succeeding.{Succeeds, SucceedsOf, Takes, Trims, entries_said, size_said};
 ghost use Rattle.segment_dump.specs.Succeeding.{version_said};
 ghost use Rattle.segment_dump.specs.Loading.{HasExactIndexes, HasSize, IsRequestedSize, IsExact, IsJudged, IsLacking};
-ghost use Rattle.segment_dump.specs.Loading.{IsLetGo, IsLoaded};
+ghost use Rattle.segment_dump.specs.Loading.{IsLetGo, IsLoaded, LetsGoOfDumps};
 ghost use Rattle.segment_dump.specs.Loading.{LiesIn, LoadsUnlessLacking, IsNotLoaded, IsRefusalOf, IsWrong, asked_of};
 ghost use Rattle.segment_dump.specs.Loading.{cause_in};
 ghost use Rattle.segment_dump.specs.Loading.{refusal_for};
@@ -44,7 +47,8 @@ use segment_manager::{CreateRefused, Mode, Segment};
 /// `BadSize`: no segment can have the size. `RegionTooSmall`: the region has too few bytes from `base` on. `NoSpace`:
 /// the objects need more bytes than the size, so the dumped segment was longer. `LongText`: a vector of strings has a
 /// text that is longer than the room. If no segment was begun, as for the last four errors, `load` gives the region
-/// back unchanged; otherwise it drops the region.
+/// back unchanged; otherwise it drops the region. The region also comes back if the first line does not begin as that
+/// of a dump does.
 pub fn load(
     text: &[u8],
     room: &mut [u8],
@@ -61,6 +65,7 @@ pub fn load(
     ensures success { Succeeds (without_notes text.now) (length region) base size (length room.old) result }
     ensures place { IfOk result (LiesIn (without_notes text.now) region base size) }
     ensures indexes { IfOk result (HasExactIndexes (without_notes text.now)) }
+    ensures region { LetsGoOfDumps (without_notes text.now) result }
 {
     load_lines(without_notes(text), room, region, base, size)
 }
@@ -81,6 +86,7 @@ fn load_lines(
     ensures success { Succeeds text.now (length region) base size (length room.old) result }
     ensures place { IfOk result (LiesIn text.now region base size) }
     ensures indexes { IfOk result (HasExactIndexes text.now) }
+    ensures region { LetsGoOfDumps text.now result }
 {
     let counted = count_dump(text);
     if let Some(cause) = refusal_of(counted, &region, base, size, room.len()) {
@@ -106,6 +112,7 @@ fn make(
     ensures success { SucceedsOf text.now (length region) base size (length room.old) counted result }
     ensures place { LiesOf text.now region base size (length room.old) counted result }
     ensures indexes { IndexesOf text.now (length region) base size (length room.old) counted result }
+    ensures region { LetsGoOfDumps text.now result }
 {
     let mut lines = Lines::new(text);
     let prefix = match read_prefix(&mut lines) {
@@ -140,7 +147,8 @@ fn declared_size(counted: Result<Count, usize>, said: u64) -> u64
 
 /// Returns the contents of the first three lines.
 fn read_prefix(lines: &mut Lines<'_>) -> Result<DumpPrefix, SyntaxError>
-    ensures { Takes fronted IsDumpPrefix lines.old lines.new result }
+    ensures reading { Takes fronted IsDumpPrefix lines.old lines.new result }
+    ensures version { OnOk result (BeginsWithVersion lines.old) }
 {
     read_version(lines)?;
     let size = read_size(lines)?;
@@ -154,7 +162,9 @@ fn read_prefix(lines: &mut Lines<'_>) -> Result<DumpPrefix, SyntaxError>
 
 /// Returns the next line without its first word, which must be `token`.
 fn read_lead<'a>(lines: &mut Lines<'a>, token: &[u8]) -> Result<LineTokens<'a>, SyntaxError>
-    ensures { ReadsLead token.now lines.old lines.new result }
+    ensures lead { ReadsLead token.now lines.old lines.new result }
+    ensures exact { IfOk result (λ tail. (line : List ℕ) × (lines.old ≡ ended line ++ lines.new)
+        × (next_token line ≡ Some (Bare token.now, tail))) }
 {
     let mut tokens = lines.next_line()?;
     tokens.expect(token)?;
@@ -163,7 +173,8 @@ fn read_lead<'a>(lines: &mut Lines<'a>, token: &[u8]) -> Result<LineTokens<'a>, 
 
 /// Reads the first line.
 fn read_version(lines: &mut Lines<'_>) -> Result<(), SyntaxError>
-    ensures { Takes version_said Any lines.old lines.new result }
+    ensures reading { Takes version_said Any lines.old lines.new result }
+    ensures version { OnOk result (BeginsWithVersion lines.old) }
 {
     let mut tokens = read_lead(lines, b"segment")?;
     tokens.expect(b"dump")?;

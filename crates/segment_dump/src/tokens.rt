@@ -1,14 +1,16 @@
 //! A dump that is read: its lines one after another, and the words of a line.
-ghost use Rattle.std.specs.Prelude.{◌≡◌, ◌≤◌, ◌<◌, ◌^◌, ◌↔◌, ◌==◌, ℕ, List, [], length, position, true, IfOk, IsTrue};
+ghost use Rattle.std.specs.Prelude.{◌≡◌, ◌≤◌, ◌<◌, ◌^◌, ◌↔◌, ◌==◌, ℕ, List, [], ◌++◌, Some, length, position, true};
+ghost use Rattle.std.specs.Prelude.{IfOk, IsTrue, OnOk};
 ghost use Rattle.raw_region.specs.Format.{current};
 ghost use Rattle.seg_types.specs.Values.{kind_of_scalar};
 ghost use Rattle.segment_lang.specs.Language.{whole_language};
 ghost use Rattle.segment_lang.specs.Reading.{kind_of_token, number};
-ghost use Rattle.segment_lang.specs.Seen.{bytes_said};
+ghost use Rattle.segment_lang.specs.{Lexing.Bare, Seen.bytes_said, Seen.token_of, Tokens.next_token};
 ghost use Rattle.segment_dump.specs.Builders.{ReadsElement, ReadsPair};
 ghost use Rattle.segment_dump.specs.Lines.{ReadsEnd, ReadsLine, ReadsThis, ReadsToken, any_token, bare_token};
 ghost use Rattle.segment_dump.specs.Lines.{quoted_token};
 ghost use Rattle.segment_dump.specs.Lines.{seen_bytes, seen_token, value_token};
+ghost use Rattle.segment_dump.specs.Reads.{ended};
 
 use crate::faults::{DumpFault, SyntaxError};
 use seg_types::{Kind, ScalarKind, ScalarValue};
@@ -77,7 +79,8 @@ impl<'a> Lines<'a> {
 
     /// Returns the next line, without the byte that ends it.
     pub fn next_line(&mut self) -> Result<LineTokens<'a>, SyntaxError>
-        ensures { ReadsLine self.old self.new result }
+        ensures line { ReadsLine self.old self.new result }
+        ensures exact { IfOk result (λ line. self.old ≡ ended line ++ self.new) }
     {
         let at = self.at();
         let rest = self.rest;
@@ -144,6 +147,7 @@ impl<'a> LineTokens<'a> {
     pub fn next_token(&mut self) -> Result<Token<'a>, SyntaxError>
         ensures max_len { IfOk result (λ token. length (bytes_said token) ≤ 4096) }
         ensures token { ReadsToken any_token self.old self.new (seen_token result) }
+        ensures exact { IfOk result (λ token. next_token self.old ≡ Some (token_of token, self.new)) }
     {
         match next_token(self.rest) {
             None => Err(self.misfit(DumpFault::BadSyntax)),
@@ -156,7 +160,8 @@ impl<'a> LineTokens<'a> {
 
     /// Returns the next word, a bare one.
     pub fn next_bare(&mut self) -> Result<&'a [u8], SyntaxError>
-        ensures { ReadsToken bare_token self.old self.new (seen_bytes result) }
+        ensures token { ReadsToken bare_token self.old self.new (seen_bytes result) }
+        ensures exact { IfOk result (λ bytes. next_token self.old ≡ Some (Bare bytes.now, self.new)) }
     {
         let misfit = self.misfit(DumpFault::BadSyntax);
         match self.next_token()? {
@@ -179,7 +184,8 @@ impl<'a> LineTokens<'a> {
 
     /// Checks that the next word is this one.
     pub fn expect(&mut self, token: &[u8]) -> Result<(), SyntaxError>
-        ensures { ReadsThis token.now self.old self.new result }
+        ensures token { ReadsThis token.now self.old self.new result }
+        ensures exact { OnOk result (next_token self.old ≡ Some (Bare token.now, self.new)) }
     {
         let misfit = self.misfit(DumpFault::BadSyntax);
         let bytes = self.next_bare()?;

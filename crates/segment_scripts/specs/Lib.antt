@@ -6,6 +6,7 @@ pub mod ZeroGaps
 pub mod Lines
 pub mod RunOutcome
 pub mod Stopping
+pub mod Following
 pub mod RunProgress
 pub mod Segments
 pub mod Replies

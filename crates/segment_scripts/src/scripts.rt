@@ -1,9 +1,11 @@
 //! The running of a script: read in pieces, parted into lines, each line answered at its end.
-ghost use Rattle.std.specs.Prelude.{◌≡◌, ◌+◌, ◌-◌, ◌^◌, ◌<◌, ℕ, List, [], ◌++◌, take, OnErr, IfOk, IfErr};
+ghost use Rattle.std.specs.Prelude.{◌≡◌, ◌+◌, ◌-◌, ◌^◌, ◌<◌, ◌≤◌, ℕ, List, [], ◌++◌, length, take, OnErr, IfOk};
+ghost use Rattle.std.specs.Prelude.{IfErr};
 ghost use Rattle.memchr.specs.Find.{IsFirstByte, is_byte};
-ghost use Rattle.raw_region.specs.Answers.{failures_in};
+ghost use Rattle.raw_region.specs.Answers.{answers_end, ends_in, failures_in};
 ghost use Rattle.raw_region.specs.Device.{read_delta, write_delta, AppendsBytes};
 ghost use Rattle.segment_scripts.specs.RunOutcome.{ExecutesScript, UsesDevices};
+ghost use Rattle.segment_scripts.specs.Following.{AsksObserver};
 ghost use Rattle.segment_scripts.specs.Refusing.{Tells};
 ghost use Rattle.segment_scripts.specs.Stopping.{FailsOnTheWay, LeavesUntil, stops_at};
 ghost use Rattle.segment_scripts.specs.Writing.{WritesFor};
@@ -50,6 +52,7 @@ fn answer_next<M: Machine, W: Sink, F: RunObserver<W>>(
     ensures output { WritesFor (W.history out.old) (W.history out.new) result (M.stands machine.old)
         (λ state. (M.respond state line.now).0) }
     ensures report { (state : M.RunState) → M.stands machine.old state → Tells result (M.refuses state line.now) }
+    ensures turn { AsksObserver F.turns follower.old follower.new out.old }
 {
     follower.before_line(out);
     machine.answer(scratch, line, out)
@@ -71,6 +74,7 @@ fn answer_ended<M: Machine, W: Sink, F: RunObserver<W>>(
         (λ state. (M.respond state (take 4098 (line.old ++ end.now))).0) }
     ensures report { (state : M.RunState) → M.stands machine.old state
         → Tells result (M.refuses state (take 4098 (line.old ++ end.now))) }
+    ensures turn { AsksObserver F.turns follower.old follower.new out.old }
     ensures empty { line.new ≡ [] }
 {
     if line.is_empty() {
@@ -118,6 +122,29 @@ fn feed<M: Machine, W: Sink, F: RunObserver<W>>(
     Ok(End::Complete)
 }
 
+/// Calls the observer, and reads a piece of the script.
+#[inline(always)]
+fn read<S: Source, W: Sink, F: RunObserver<W>>(
+    script: &mut S,
+    into: &mut [u8],
+    out: &mut W,
+    follower: &mut F,
+) -> Result<usize, DeviceFault>
+    requires { (S.history script.old).failures < 2 ^ 64 - 1 }
+    ensures count { IfOk result (λ n. n ≤ length into.new) }
+    ensures bytes { IfOk result (λ n. (S.history script.new).bytes ≡ (S.history script.old).bytes ++ take n into.new) }
+    ensures no_bytes { OnErr result ((S.history script.new).bytes ≡ (S.history script.old).bytes) }
+    ensures end { 0 < length into.old → (S.history script.new).ended ≡ answers_end result }
+    ensures same_end { length into.old ≡ 0 → (S.history script.new).ended ≡ (S.history script.old).ended }
+    ensures ends { (S.history script.new).ends ≡ (S.history script.old).ends + ends_in result (length into.old) }
+    ensures failures { (S.history script.new).failures ≡ (S.history script.old).failures + failures_in result }
+    ensures history { W.history out.new ≡ W.history out.old }
+    ensures opening { F.opens follower.old out.old follower.new out.new }
+{
+    follower.before_read(out);
+    script.read(into)
+}
+
 /// Reads the script in pieces and executes the lines that end in it, up to the line that ends the run.
 fn read_lines<M: Machine, S: Source, W: Sink, F: RunObserver<W>>(
     machine: &mut M,
@@ -151,8 +178,7 @@ fn read_lines<M: Machine, S: Source, W: Sink, F: RunObserver<W>>(
     'pieces: loop {
         // one byte behind the limit says that the script is too long
         let lent = &mut piece[..PIECE.min(left + 1)];
-        follower.before_read(out);
-        let count = match script.read(lent) {
+        let count = match read(script, lent, out, follower) {
             Ok(count) => count,
             Err(_) => return Err(RunFault::ReadFault),
         };

@@ -7,6 +7,8 @@ use Rattle.segment_dump.proofs.Common.{ReadsThis}
 use Rattle.segment_dump.proofs.Common.{ReadsToken, any_token, bare_token, HasNoEnd, ended, lt-ltb}
 use Rattle.std.specs.{List.position_or_len, Option.ok_or}
 use Rattle.std.proofs.Math.Seq.{drop-append_seam}
+use Rattle.std.proofs.lemmas.List.Quantifiers.{position-Some}
+use Rattle.segment_dump.proofs.Common.{eqb-true, get_or, zero}
 use Rattle.segment_dump.proofs.texts.Options.{never-ok, none-some, ok-same, same_Some}
 
 -- ---- a word
@@ -120,6 +122,13 @@ end-of-line (c ∷ line) a h =
 ended-apart : (line a : List ℕ) → ended line ++ a ≡ line ++ 0x0A ∷ a
 ended-apart line a = append_assoc line (0x0A ∷ []) a
 
+-- a text is what stands before such a byte, the byte, and what stands behind it
+cut-at : (text : List ℕ) (n : ℕ) → n < length text → get_or text n 0 ≡ 0x0A
+    → text ≡ take n text ++ 0x0A ∷ drop 1 (drop n text)
+cut-at [] n l g = absurd (omega (arith, l))
+cut-at (c ∷ cs) zero l g = ap (λ b. b ∷ cs) g
+cut-at (c ∷ cs) (suc n) l g = ap (λ xs. c ∷ xs) (cut-at cs n (omega (arith, l)) g)
+
 -- where the line is read
 record IsCut (text : List ℕ) (n : ℕ) (line a : List ℕ) : Type 0 where
   long : n ≡ length line
@@ -172,3 +181,12 @@ module _ {E : Type 0} (text : List ℕ) where
         let r = line-cut text line a n h q (sym p ∙ e) in
         (ap Ok (f ∙ r.prefix), k ∙ ap (drop 1) (g ∙ r.behind));
   }
+
+-- the line with its end, and what is left, are the text
+pub line-whole : (text rest prefix behind : List ℕ) (o : Option ℕ) (n : ℕ) → o ≡ position is_end text → o ≡ Some n
+    → prefix ≡ take n text → behind ≡ drop n text → rest ≡ drop 1 behind → text ≡ ended prefix ++ rest
+line-whole text rest prefix behind o n p e f g k =
+    let at = position-Some is_end text n 0 (sym p ∙ e) in
+    let last : rest ≡ drop 1 (drop n text) = k ∙ ap (drop 1) g in
+    cut-at text n at.0 (eqb-true (get_or text n 0) 0x0A at.1) ∙ (λ i. sym f i ++ 0x0A ∷ sym last i)
+    ∙ sym (ended-apart prefix rest)

@@ -15,20 +15,20 @@ pub returns-in_err-tokens-clause-objects : goal.returns-in_err-tokens-clause-obj
 returns-in_err-tokens-clause-objects c =
     build-no_line c.args.segment.now c.objects.segment c.args.lines.now c.objects.lines
     c.args.most (length c.args.room.now) c.objects.counter c.objects.invariant.0 c.objects.segment _
-    c.next_line.new.self c.from_residual.result c.in_err-tokens.ensures
+    c.next_line.new.self c.from_residual.result c.in_err-tokens.ensures.line
 
 pub returns-then-are-clause-objects : goal.returns-then-are-clause-objects
 returns-then-are-clause-objects c =
     build-end c.args.segment.now c.objects.segment c.args.lines.now c.objects.lines c.args.most
     (length c.args.room.now) c.objects.counter c.objects.invariant.0 c.next_line.new.self c.in_ok-tokens.tokens
-    c.finish.result c.in_ok-tokens.ensures (c.if-are.ensures.0 refl) c.finish.ensures
+    c.finish.result c.in_ok-tokens.ensures.line (c.if-are.ensures.0 refl) c.finish.ensures
 
 pub returns-in_err-build_object-clause-objects : goal.returns-in_err-build_object-clause-objects
 returns-in_err-build_object-clause-objects c =
     build-cut c.args.segment.now c.objects.segment c.args.lines.now c.objects.lines c.args.most
     (length c.args.room.now) c.objects.counter c.objects.invariant.0 c.build_object.new.segment
     c.build_object.new.segment c.next_line.new.self c.in_ok-tokens.tokens c.build_object.new.lines _
-    c.from_residual-in_err-build_object.result c.in_ok-tokens.ensures (λ e. false≢true (c.if-are.ensures.1 e))
+    c.from_residual-in_err-build_object.result c.in_ok-tokens.ensures.line (λ e. false≢true (c.if-are.ensures.1 e))
     (as-long c.objects.segment c.build_object.new.segment c.in_ok-tokens.tokens c.next_line.new.self
     c.build_object.new.lines (length c.objects.room) (length c.args.room.now) _ c.objects.invariant.1
     c.in_err-build_object.ensures.object)
@@ -38,7 +38,7 @@ objects-preserved c = (
   build-more c.args.segment.now c.objects.segment c.args.lines.now c.objects.lines c.args.most
       (length c.args.room.now) c.objects.counter c.objects.invariant.0 c.build_object.new.segment
       c.next_line.new.self c.in_ok-tokens.tokens c.build_object.new.lines c.in_ok-build_object.field-0
-      c.in_ok-tokens.ensures (λ e. false≢true (c.if-are.ensures.1 e))
+      c.in_ok-tokens.ensures.line (λ e. false≢true (c.if-are.ensures.1 e))
       (as-long c.objects.segment c.build_object.new.segment c.in_ok-tokens.tokens c.next_line.new.self
       c.build_object.new.lines (length c.objects.room) (length c.args.room.now) _ c.objects.invariant.1
       c.in_ok-build_object.ensures.object),

@@ -28,7 +28,7 @@ pieces-preserved c = (
       c.pieces.counter c.pieces.invariant.0 (omega (arith, c.pieces-test.true, c.pieces_behind-end.ensures))
       c.next_line.new.self
       c.in_ok-tokens-2.tokens c.copy_piece-in-pieces.new.room c.in_ok-filled-2.filled c.pieces.invariant.2
-      c.in_ok-tokens-2.ensures c.in_ok-filled-2.ensures.piece,
+      c.in_ok-tokens-2.ensures.line c.in_ok-filled-2.ensures.piece,
   c.in_ok-filled-2.ensures.in_bounds,
   c.copy_piece-in-pieces.auto.room ∙ c.pieces.invariant.2,
 )
@@ -43,7 +43,7 @@ returns-in_err-tokens-2-clause-text c =
     more-no_line c.args.lines.now c.args.room.now c.pieces.lines c.pieces.room c.in_ok-tokens.len c.pieces.filled
     c.pieces.counter c.pieces.invariant.0 (omega (arith, c.pieces-test.true, c.pieces_behind-end.ensures))
     c.next_line.new.self _
-    c.pieces.room c.from_residual-in_err-tokens-2.result c.in_err-tokens-2.ensures c.next_line.new.self
+    c.pieces.room c.from_residual-in_err-tokens-2.result c.in_err-tokens-2.ensures.line c.next_line.new.self
 
 pub returns-in_err-filled-2-clause-text : goal.returns-in_err-filled-2-clause-text
 returns-in_err-filled-2-clause-text c =
@@ -51,5 +51,5 @@ returns-in_err-filled-2-clause-text c =
     c.pieces.counter c.pieces.invariant.0 (omega (arith, c.pieces-test.true, c.pieces_behind-end.ensures))
     c.next_line.new.self c.in_ok-tokens-2.tokens c.copy_piece-in-pieces.new.room _
     c.from_residual-in_err-filled-2.result
-    c.pieces.invariant.2 c.in_ok-tokens-2.ensures c.in_err-filled-2.ensures.piece c.next_line.new.self
+    c.pieces.invariant.2 c.in_ok-tokens-2.ensures.line c.in_err-filled-2.ensures.piece c.next_line.new.self
     c.copy_piece-in-pieces.new.room

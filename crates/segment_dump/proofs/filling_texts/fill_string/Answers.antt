@@ -31,17 +31,17 @@ pieces-init c = (
 
 pub returns-in_err-tokens-2-clause-filling : goal.returns-in_err-tokens-2-clause-filling
 returns-in_err-tokens-2-clause-filling c = λ room. string-no_line (c.pieces.invariant.0 room)
-    (omega (arith, c.pieces-test.true, c.pieces_behind-end.ensures)) c.in_err-tokens-2.ensures
+    (omega (arith, c.pieces-test.true, c.pieces_behind-end.ensures)) c.in_err-tokens-2.ensures.line
 
 pub returns-in_err-append_piece-2-clause-filling : goal.returns-in_err-append_piece-2-clause-filling
 returns-in_err-append_piece-2-clause-filling c = λ room. string-no_more (c.pieces.invariant.0 room)
-    (omega (arith, c.pieces-test.true, c.pieces_behind-end.ensures)) c.in_ok-tokens-2.ensures
+    (omega (arith, c.pieces-test.true, c.pieces_behind-end.ensures)) c.in_ok-tokens-2.ensures.line
     c.in_err-append_piece-2.ensures.append
 
 pub pieces-preserved : goal.pieces-preserved
 pieces-preserved c = (
   λ room. string-more (c.pieces.invariant.0 room)
-      (omega (arith, c.pieces-test.true, c.pieces_behind-end.ensures)) c.in_ok-tokens-2.ensures
+      (omega (arith, c.pieces-test.true, c.pieces_behind-end.ensures)) c.in_ok-tokens-2.ensures.line
       c.in_ok-append_piece-2.ensures.append,
   c.in_ok-append_piece-2.ensures.in_place,
   SameSurroundings-trans _ _ _ c.pieces.invariant.2 c.in_ok-append_piece-2.ensures.place,

@@ -1,5 +1,5 @@
 use Rattle.std.specs.Prelude.{IfOk}
-use Rattle.segment_dump.specs.Loading.{HasExactIndexes, LiesIn}
+use Rattle.segment_dump.specs.Loading.{HasExactIndexes, LetsGoOfDumps, LiesIn}
 use Rattle.segment_dump.proofs.Common.{length, subst, MatchResult, IsExact, IsLoaded, IsNotLoaded, cause_in, Succeeds}
 use Rattle.std.specs.Prelude.{IfSome}
 use Rattle.segment_dump.specs.Loading.{IsLacking}
@@ -32,3 +32,7 @@ returns-clause-place c = subst (λ t. IfOk c.load_lines.result (LiesIn t c.args.
 pub returns-clause-indexes : goal.returns-clause-indexes
 returns-clause-indexes c = subst (λ t. IfOk c.load_lines.result (HasExactIndexes t)) c.without_notes.ensures
     c.load_lines.ensures.indexes
+
+pub returns-clause-region : goal.returns-clause-region
+returns-clause-region c = subst (λ t. LetsGoOfDumps t c.load_lines.result) c.without_notes.ensures
+    c.load_lines.ensures.region

@@ -1,3 +1,4 @@
+use Rattle.segment_dump.proofs.loading.Dropped.{begins, on-err}
 use Rattle.segment_dump.proofs.loading.Success.{good-indexed, good-placed}
 use Rattle.segment_dump.proofs.loading.make.Goals as goal
 use Rattle.segment_dump.proofs.{Common.length, Common.refl, loading.Judgement.back-some, loading.Judgement.judged}
@@ -16,7 +17,7 @@ pub returns-in-Err-clause-success : goal.returns-in-Err-clause-success
 returns-in-Err-clause-success c =
     good-no_prefix c.args.text.now (length c.args.region) c.args.base c.args.size (length c.args.room.now)
     c.args.counted c.new-lines.result c.read_prefix.new.lines c.read_prefix.result _ _ c.new-lines.ensures
-    c.read_prefix.ensures c.in-Err.is
+    c.read_prefix.ensures.reading c.in-Err.is
 
 pub returns-in-Err-create-clause-success : goal.returns-in-Err-create-clause-success
 returns-in-Err-create-clause-success c =
@@ -30,7 +31,8 @@ returns-in-Err-make_objects-clause-success c =
     c.args.counted _ _ c.args.region c.new-lines.result c.read_prefix.new.lines c.in-Ok.prefix
     c.asked_size-asked.result c.declared_size.result c.in-Ok-create.segment c.make_objects.new.segment
     c.make_objects.result
-    c.read_prefix.result c.create.result c.new-lines.ensures c.read_prefix.ensures c.in-Ok.is c.declared_size.ensures
+    c.read_prefix.result c.create.result c.new-lines.ensures c.read_prefix.ensures.reading c.in-Ok.is
+    c.declared_size.ensures
     c.asked_size-asked.ensures.value c.create.ensures c.in-Ok-create.is c.make_objects.ensures.objects _ _
     c.in-Err-make_objects.is
 
@@ -44,7 +46,8 @@ returns-clause-success c =
     c.args.counted _ _ c.args.region c.new-lines.result c.read_prefix.new.lines c.in-Ok.prefix
     c.asked_size-asked.result c.declared_size.result c.in-Ok-create.segment c.make_objects.new.segment
     c.make_objects.result
-    c.read_prefix.result c.create.result c.new-lines.ensures c.read_prefix.ensures c.in-Ok.is c.declared_size.ensures
+    c.read_prefix.result c.create.result c.new-lines.ensures c.read_prefix.ensures.reading c.in-Ok.is
+    c.declared_size.ensures
     c.asked_size-asked.ensures.value c.create.ensures c.in-Ok-create.is c.make_objects.ensures.objects _
     c.judge.ensures.success
 
@@ -71,7 +74,8 @@ returns-clause-place c =
     c.args.counted _ _ c.args.region c.new-lines.result c.read_prefix.new.lines c.in-Ok.prefix
     c.asked_size-asked.result c.declared_size.result c.in-Ok-create.segment c.make_objects.new.segment
     c.make_objects.result
-    c.read_prefix.result c.create.result c.new-lines.ensures c.read_prefix.ensures c.in-Ok.is c.declared_size.ensures
+    c.read_prefix.result c.create.result c.new-lines.ensures c.read_prefix.ensures.reading c.in-Ok.is
+    c.declared_size.ensures
     c.asked_size-asked.ensures.value c.create.ensures c.in-Ok-create.is c.make_objects.ensures.objects _ refl
     c.make_objects.ensures.place c.judge.ensures.place
 
@@ -81,6 +85,19 @@ returns-clause-indexes c =
     c.args.counted _ _ c.args.region c.new-lines.result c.read_prefix.new.lines c.in-Ok.prefix
     c.asked_size-asked.result c.declared_size.result c.in-Ok-create.segment c.make_objects.new.segment
     c.make_objects.result
-    c.read_prefix.result c.create.result c.new-lines.ensures c.read_prefix.ensures c.in-Ok.is c.declared_size.ensures
+    c.read_prefix.result c.create.result c.new-lines.ensures c.read_prefix.ensures.reading c.in-Ok.is
+    c.declared_size.ensures
     c.asked_size-asked.ensures.value c.create.ensures c.in-Ok-create.is c.make_objects.ensures.objects _
     c.judge.ensures.indexes
+
+-- ---- whether the region comes back
+
+pub returns-in-Err-make_objects-clause-region : goal.returns-in-Err-make_objects-clause-region
+returns-in-Err-make_objects-clause-region c = λ gone.
+    begins c.args.text.now c.new-lines.result c.read_prefix.result c.in-Ok.prefix c.read_prefix.ensures.version
+    c.in-Ok.is c.new-lines.ensures
+
+pub returns-clause-region : goal.returns-clause-region
+returns-clause-region c = on-err c.judge.result (λ refused gone.
+    begins c.args.text.now c.new-lines.result c.read_prefix.result c.in-Ok.prefix c.read_prefix.ensures.version
+    c.in-Ok.is c.new-lines.ensures)

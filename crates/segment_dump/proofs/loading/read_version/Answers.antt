@@ -1,14 +1,30 @@
+use Rattle.segment_dump.proofs.loading.Dropped.{on-ok}
 use Rattle.segment_dump.proofs.reading.PrefixSteps.{version-no_dump, version-no_one, version-none, version-some}
 use Rattle.segment_dump.proofs.loading.read_version.Goals as goal
 
-pub returns-in_err-tokens : goal.returns-in_err-tokens
-returns-in_err-tokens c = version-none c.in_err-tokens.ensures
+pub returns-in_err-tokens-clause-reading : goal.returns-in_err-tokens-clause-reading
+returns-in_err-tokens-clause-reading c = version-none c.in_err-tokens.ensures.lead
 
-pub returns-in_err-expect : goal.returns-in_err-expect
-returns-in_err-expect c = version-no_dump c.in_ok-tokens.ensures c.in_err-expect.ensures
+pub returns-in_err-expect-clause-reading : goal.returns-in_err-expect-clause-reading
+returns-in_err-expect-clause-reading c = version-no_dump c.in_ok-tokens.ensures.lead c.in_err-expect.ensures.token
 
-pub returns-in_err-expect-2 : goal.returns-in_err-expect-2
-returns-in_err-expect-2 c = version-no_one c.in_ok-tokens.ensures c.in_ok-expect.ensures c.in_err-expect-2.ensures
+pub returns-in_err-expect-2-clause-reading : goal.returns-in_err-expect-2-clause-reading
+returns-in_err-expect-2-clause-reading c = version-no_one c.in_ok-tokens.ensures.lead c.in_ok-expect.ensures.token
+    c.in_err-expect-2.ensures.token
 
-pub returns : goal.returns
-returns c = version-some c.in_ok-tokens.ensures c.in_ok-expect.ensures c.in_ok-expect-2.ensures c.finish.ensures
+pub returns-clause-reading : goal.returns-clause-reading
+returns-clause-reading c = version-some c.in_ok-tokens.ensures.lead c.in_ok-expect.ensures.token
+    c.in_ok-expect-2.ensures.token c.finish.ensures
+
+pub returns-clause-version : goal.returns-clause-version
+returns-clause-version c = on-ok c.finish.result (record {
+  line = c.in_ok-tokens.ensures.exact.0;
+  rest = c.read_lead.new.lines;
+  is = c.in_ok-tokens.ensures.exact.1;
+  behind_segment = c.in_ok-tokens.tokens;
+  first = c.in_ok-tokens.ensures.exact.2;
+  behind_dump = c.expect.new.self;
+  second = c.in_ok-expect.ensures.exact;
+  behind_one = c.expect-2.new.self;
+  third = c.in_ok-expect-2.ensures.exact;
+})

@@ -32,18 +32,18 @@ returns-in-Err-feed-clause-fault g c = λ start s.
     let before = (g.W.Sink.history c.args.out.now).bytes in
     let old = (g.S.Source.history c.args.script.now).bytes in
     let mid = (g.S.Source.history c.pieces.script).bytes in
-    let new = (g.S.Source.history c.read.new.self).bytes in
+    let new = (g.S.Source.history c.read.new.script).bytes in
     let was = c.pieces.invariant in
-    let same = c.before_read.ensures in
+    let same = c.read.ensures.history in
     let failures = ap (λ (t : WriterHistory). t.failures) same in
     let read = drop (length old) mid in
     let count = c.in-Ok.count in
     let piece = c.read.new.into in
     let asked : 0 < length (take c.min.result c.pieces.piece) =
     simp length-take (omega (arith, was.buffer, c.min.ensures)) in
-    let unended : (g.S.Source.history c.read.new.self).ended ≡ false =
+    let unended : (g.S.Source.history c.read.new.script).ended ≡ false =
     c.in-Ok.ensures.end asked ∙ ne_eqb count 0 c.if-count-eq0.false in
-    let script = read_delta (g.S.Source.history c.args.script.now) (g.S.Source.history c.read.new.self) in
+    let script = read_delta (g.S.Source.history c.args.script.now) (g.S.Source.history c.read.new.script) in
     let stops = stops_at c.args.until g.M.Machine.refuses in
     let cut = cut_in g.M.Machine.respond stops start before read piece c.pieces.left count c.min-within.result
     script (g.M.Machine.stands c.feed.new.machine) (g.W.Sink.history c.feed.new.out).bytes
@@ -63,9 +63,9 @@ returns-then-left-count-clause-fault g c = λ start s.
     let before = (g.W.Sink.history c.args.out.now).bytes in
     let old = (g.S.Source.history c.args.script.now).bytes in
     let mid = (g.S.Source.history c.pieces.script).bytes in
-    let new = (g.S.Source.history c.read.new.self).bytes in
+    let new = (g.S.Source.history c.read.new.script).bytes in
     let was = c.pieces.invariant in
-    let same = c.before_read.ensures in
+    let same = c.read.ensures.history in
     let failures = ap (λ (t : WriterHistory). t.failures) same in
     let read = drop (length old) mid in
     let count = c.in-Ok.count in
@@ -95,18 +95,18 @@ returns-in-Ok-Refused-clause-end g c = λ start s.
     let before = (g.W.Sink.history c.args.out.now).bytes in
     let old = (g.S.Source.history c.args.script.now).bytes in
     let mid = (g.S.Source.history c.pieces.script).bytes in
-    let new = (g.S.Source.history c.read.new.self).bytes in
+    let new = (g.S.Source.history c.read.new.script).bytes in
     let was = c.pieces.invariant in
-    let same = c.before_read.ensures in
+    let same = c.read.ensures.history in
     let failures = ap (λ (t : WriterHistory). t.failures) same in
     let read = drop (length old) mid in
     let count = c.in-Ok.count in
     let piece = c.read.new.into in
     let asked : 0 < length (take c.min.result c.pieces.piece) =
     simp length-take (omega (arith, was.buffer, c.min.ensures)) in
-    let unended : (g.S.Source.history c.read.new.self).ended ≡ false =
+    let unended : (g.S.Source.history c.read.new.script).ended ≡ false =
     c.in-Ok.ensures.end asked ∙ ne_eqb count 0 c.if-count-eq0.false in
-    let script = read_delta (g.S.Source.history c.args.script.now) (g.S.Source.history c.read.new.self) in
+    let script = read_delta (g.S.Source.history c.args.script.now) (g.S.Source.history c.read.new.script) in
     let out = write_delta (g.W.Sink.history c.args.out.now) (g.W.Sink.history c.feed.new.out) in
     stopped_in g.M.Machine.respond (stops_at c.args.until g.M.Machine.refuses) start before read piece c.pieces.left
     count c.min-within.result script out (g.M.Machine.stands c.feed.new.machine) (g.W.Sink.history c.feed.new.out).bytes

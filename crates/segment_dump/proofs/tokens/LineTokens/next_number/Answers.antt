@@ -3,8 +3,8 @@ use Rattle.segment_dump.proofs.tokens.LineTokens.next_number.Goals as goal
 
 pub returns-in_err-next_bare : goal.returns-in_err-next_bare
 returns-in_err-next_bare c = no-number c.args.self.now c.next_bare.new.self _ c.from_residual.result
-    c.in_err-next_bare.ensures
+    c.in_err-next_bare.ensures.token
 
 pub returns : goal.returns
 returns c = read-number c.args.self.now c.next_bare.new.self c.in_ok-next_bare.field-0.now c.number_of.result _
-    c.ok_or.result c.in_ok-next_bare.ensures c.number_of.ensures c.ok_or.ensures.value
+    c.ok_or.result c.in_ok-next_bare.ensures.token c.number_of.ensures c.ok_or.ensures.value

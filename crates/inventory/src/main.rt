@@ -149,6 +149,18 @@ fn tell_of_articles(rt: &HostRuntime, shop: &Segment) -> Result<()> {
     Ok(())
 }
 
+/// Tells which articles a supplier sells.
+fn tell_of_supplier(rt: &HostRuntime, shop: &Segment, name: &str, supplier: &str) -> Result<()> {
+    print!(rt; "{supplier} sells")?;
+    let seller = named(name)?;
+    for offset in 0..Vector::<i32>::of(shop, &seller)?.len() {
+        let number: i32 = shop.vec_get(&seller, offset)?;
+        print!(rt; " {number}")?;
+    }
+    println!(rt; "")?;
+    Ok(())
+}
+
 /// Tells what each supplier sells.
 fn tell_of_suppliers(rt: &HostRuntime, shop: &Segment) -> Result<()> {
     for name in shop.names_from(b"suppliers/") {
@@ -156,13 +168,7 @@ fn tell_of_suppliers(rt: &HostRuntime, shop: &Segment) -> Result<()> {
         let Some(supplier) = name.strip_prefix("suppliers/") else {
             break;
         };
-        print!(rt; "{supplier} sells")?;
-        let seller = named(name)?;
-        for offset in 0..Vector::<i32>::of(shop, &seller)?.len() {
-            let number: i32 = shop.vec_get(&seller, offset)?;
-            print!(rt; " {number}")?;
-        }
-        println!(rt; "")?;
+        tell_of_supplier(rt, shop, name, supplier)?;
     }
     Ok(())
 }
@@ -207,17 +213,28 @@ fn earn<D: Disk>(
     Ok(())
 }
 
-/// Opens or creates the inventory, adds 1 to the earnings `times` times, commits each, and makes a checkpoint.
-fn earn_by_commits(rt: &HostRuntime, disk: &mut impl Disk, path: &str, times: u64) -> Result<()> {
-    let mut file = SegmentFile::open_or_create(rt.alloc(), disk, path, 65536)?;
+/// Fills an inventory that is new, adds 1 to the earnings `times` times, commits each, and makes a checkpoint.
+fn earn_times<D: Disk>(
+    rt: &HostRuntime,
+    disk: &mut D,
+    file: &mut SegmentFile<D::Hold>,
+    times: u64,
+) -> Result<()> {
     if file.segment.num_named() == 0 {
         fill(rt.alloc(), &mut file.segment)?;
     }
     let earned = named("earned")?;
     for _ in 0..times {
-        earn(rt, disk, &mut file, &earned)?;
+        earn(rt, disk, file, &earned)?;
     }
     file.checkpoint(rt.alloc(), disk)?;
+    Ok(())
+}
+
+/// Opens or creates the inventory, adds 1 to the earnings `times` times, commits each, and closes it.
+fn earn_by_commits(rt: &HostRuntime, disk: &mut impl Disk, path: &str, times: u64) -> Result<()> {
+    let mut file = SegmentFile::open_or_create(rt.alloc(), disk, path, 65536)?;
+    earn_times(rt, disk, &mut file, times)?;
     file.close(disk);
     Ok(())
 }

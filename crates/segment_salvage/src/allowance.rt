@@ -26,7 +26,7 @@ impl Allowance {
         }
     }
 
-    /// ReadsValues `bytes` bytes of those that are left, or returns `None` if fewer are left.
+    /// Takes `bytes` bytes of those that are left, or returns `None` if fewer are left.
     pub(crate) fn take(&mut self, bytes: u64) -> Option<()>
         ensures on_ok { IfSome result (λ _. self.new.left + bytes ≡ self.old.left) }
         ensures refused { result ≡ None → self.new.left ≡ self.old.left }

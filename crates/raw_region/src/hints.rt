@@ -1,21 +1,21 @@
-//! Numbers about memory, stored next to the memory and not in its bytes.
+//! Hints about memory: numbers that are stored next to the memory and not in its bytes.
 ghost use Rattle.std.specs.Prelude.{◌≡◌, ◌≤◌, ℕ, IfSome, [], length, slice_index, slice_set, vec_capacity};
 ghost use Rattle.raw_region.specs.HintTable.{numbers_in};
 
 use std::alloc::Global;
 use std::marker::Model;
 
-/// The greatest number of notes about one memory.
+/// The greatest number of hints about one memory.
 const MAX_HINTS: u64 = 4352;
 
-/// The number of notes about all of the memory.
+/// The number of hints about all of the memory.
 const COMMON_HINTS: u64 = 256;
 
-/// The number of bytes for each other note.
+/// The number of bytes for each other hint.
 const NOTED_LEN: u64 = 2048;
 
-/// Notes about memory: 256 numbers about all of it, and one number for each 2048 bytes, at most 4096. Their room is
-/// allocated with the memory; no call here allocates. Without room there are no notes.
+/// Hints about memory: 256 numbers about all of it, and one number for each 2048 bytes, at most 4096. Their storage is
+/// allocated with the memory; no other call allocates. Without storage there are no hints.
 #[derive(Drop)]
 pub struct HintTable {
     numbers: Option<Vec<u32>>,
@@ -33,22 +33,22 @@ impl Model for HintTable {
 }
 
 impl HintTable {
-    /// Makes notes without room.
+    /// Makes a table without storage.
     pub(crate) fn none() -> HintTable
         ensures { result ≡ [] }
     {
         HintTable { numbers: None }
     }
 
-    /// Makes notes with room for a memory of `capacity` bytes. They have no room if the allocator refuses it, or if
-    /// `capacity` is below 2048.
+    /// Makes a table with storage for a memory of `capacity` bytes. The table has no storage if the allocator refuses
+    /// it, or if `capacity` is below 2048.
     pub(crate) fn about(alloc: Global, capacity: u64) -> HintTable {
         HintTable {
             numbers: numbers_for(alloc, capacity),
         }
     }
 
-    /// Sets each note to 0 and keeps the room.
+    /// Sets each hint to 0 and keeps the storage.
     pub(crate) fn into_zeros(self) -> HintTable
         ensures { (i : ℕ) → slice_index result i ≡ 0 }
     {
@@ -61,7 +61,7 @@ impl HintTable {
         }
     }
 
-    /// Returns all notes.
+    /// Returns all hints.
     pub fn as_slice(&self) -> &[u32]
         ensures { result.now ≡ self.now }
     {
@@ -71,7 +71,7 @@ impl HintTable {
         }
     }
 
-    /// Returns the number of notes, at most 4352.
+    /// Returns the number of hints, at most 4352.
     pub fn len(&self) -> usize
         ensures len { result ≡ length self.now }
         ensures most { result ≤ 4352 }
@@ -81,14 +81,14 @@ impl HintTable {
         self.as_slice().len()
     }
 
-    /// Returns the note at `at`, or 0 if `at` is past the last note.
+    /// Returns the hint at `at`, or 0 if `at` is past the last hint.
     pub fn get(&self, at: usize) -> u32
         ensures { result ≡ slice_index self.now at }
     {
         number_at(self.as_slice(), at)
     }
 
-    /// Sets the note at `at`; does nothing if `at` has no room.
+    /// Sets the hint at `at`; does nothing if `at` is past the last hint.
     pub fn set(&mut self, at: usize, number: u32)
         ensures { self.new ≡ slice_set self.old at number }
     {
@@ -100,7 +100,7 @@ impl HintTable {
     }
 }
 
-/// Allocates room for the notes about `capacity` bytes; `None` if the allocator refuses, or if `capacity` is below
+/// Allocates storage for the hints about `capacity` bytes; `None` if the allocator refuses, or if `capacity` is below
 /// 2048.
 fn numbers_for(alloc: Global, capacity: u64) -> Option<Vec<u32>>
     ensures empty { numbers_in result ≡ [] }
@@ -113,7 +113,7 @@ fn numbers_for(alloc: Global, capacity: u64) -> Option<Vec<u32>>
     Vec::with_capacity(alloc, (COMMON_HINTS + others) as usize + 1).ok()
 }
 
-/// Returns as many zeros as the room holds, at most 4352. It allocates nothing.
+/// Returns as many zeros as the storage holds, at most 4352. The call allocates nothing.
 fn filled(kept: Vec<u32>) -> Vec<u32>
     ensures zeros { (i : ℕ) → slice_index result.items i ≡ 0 }
     ensures most { length result.items ≤ 4352 }

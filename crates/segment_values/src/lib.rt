@@ -18,7 +18,7 @@ pub use contents::{count_of, length_of, put_content};
 pub use elements::{get, get_element, set, set_array_element};
 pub use layouts::Layout;
 pub use objects::object_to_change;
-pub use pairs::{erase_pair, insert_pair, look_up, put_pair};
+pub use pairs::{erase_pair, insert_pair, look_up, look_up_scalar, put_pair};
 pub use reads::read_elements;
 pub use vectors::{InsertSpot, add, erase, insert_scalar};
 pub use walking::{first_pair, least, next_pair};

@@ -99,9 +99,14 @@ pub fn look_up<L: WrittenValue>(
     }
 }
 
-/// Returns the value of the map key `at` in a map of its kind and the kind `values`, or `None` if the map lacks it.
+/// Returns the value of the map key `at` in a located map of its kind and the kind `values`, or `None` if the map lacks
+/// it.
+///
+/// # Conditions
+///
+/// The object is there and has the kind.
 #[inline(always)]
-fn look_up_scalar(
+pub fn look_up_scalar(
     segment: &Segment,
     object: Object,
     at: ScalarValue,

@@ -7,7 +7,7 @@ use Rattle.seg_types.specs.{declared.kinds.ScalarKind.ScalarKind, Kinds.same_kin
 use Rattle.seg_types.specs.{Commands.Literal, Commands.value_of_literal, declared.refusals.Refusal.Refusal, Names.Key}
 use Rattle.seg_types.specs.declared.kinds.Kind.{Kind}
 use Rattle.seg_map.specs.Numbers.{NumberPair}
-use Rattle.segment_manager.specs.Directory.{Directory, Object, kind_of, object_at}
+use Rattle.segment_manager.specs.Directory.{Directory, Object, kind_of}
 use Rattle.segment_manager.specs.containers.Walks.{KindedPair, pairs_at, pairs_at_kinds, pairs_of}
 use Rattle.segment_manager.specs.containers.Maps.{pair_above}
 use Rattle.segment_manager.specs.State.{AnswersWith, DenotesCurrent, SegmentState}
@@ -74,11 +74,6 @@ module _ (s : SegmentState) (key : Key) where
   -- results that depend on the kinds of a key's map
   module _ {A : Type 0} (P : Result A Refusal → Type 0)
       (say : Directory → ScalarKind → ScalarKind → Result A Refusal) where
-    -- the key has no map
-    pub told-refused : (why : Refusal) → AnswersWith s (λ d. map_kinds_at d key) (Err why) → P (Err why)
-        → (d : Directory) → DenotesCurrent s.cut.bytes d → P (by_kinds (say d) (map_kinds_at d key))
-    told-refused why a p d st = subst P (ap (by_kinds (say d)) (a.answers d st)) p
-
     -- the key's map has these kinds
     pub told-map : (k v : ScalarKind) → AnswersWith s (λ d. map_kinds_at d key) (Ok (k, v)) → (d : Directory)
         → DenotesCurrent s.cut.bytes d → P (say d k v) → P (by_kinds (say d) (map_kinds_at d key))

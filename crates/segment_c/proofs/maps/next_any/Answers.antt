@@ -1,13 +1,12 @@
 -- The pair above a value of the key's map, whatever the object is.
-use Rattle.std.proofs.Common.{Ok, ap, option_map, rules, subst, sym, ◌∙◌}
+use Rattle.std.proofs.Common.{Ok, option_map, rules, subst, sym, ◌∙◌}
 use Rattle.seg_types.specs.{Keys.key_seen, Written.literal_seen, Values.kind_of_scalar, Values.value_of_scalar}
-use Rattle.seg_types.specs.declared.kinds.Kind.TheVariants.{Map}
 use Rattle.segment_manager.specs.{State.AnswersWith, containers.Maps.pair_above, objects.BoundObjects.key_of as its_key}
-use Rattle.segment_manager.specs.{containers.Walks.item_seen, containers.Walks.pairs_at, objects.Located.IsObject}
+use Rattle.segment_manager.specs.{containers.Walks.item_seen, containers.Walks.pairs_at}
 use Rattle.segment_c.specs.Passed.{literal_in}
-use Rattle.segment_c.specs.Reads.{TellsPair, above_in, item_in, next_at, next_in}
+use Rattle.segment_c.specs.Reads.{TellsPair, item_in, next_at}
 use Rattle.segment_c.proofs.segment_slot.GoingOn.{reads}
-use Rattle.segment_c.proofs.views.Neighbours.{next-told, told-map, told-refused}
+use Rattle.segment_c.proofs.views.Neighbours.{next-told}
 use Rattle.segment_c.proofs.maps.next_any.Goals as goal
 
 pub returns-in-Ok-value_of : goal.returns-in-Ok-value_of

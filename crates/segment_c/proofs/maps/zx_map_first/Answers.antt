@@ -3,10 +3,10 @@ use Rattle.std.proofs.Common.{◌∙◌, Ok, Option, ap, option_map, rules, subs
 use Rattle.seg_map.specs.Places.{item_of}
 use Rattle.seg_types.specs.Keys.{key_seen}
 use Rattle.segment_manager.specs.containers.Walks.{KindedPair, first_of, item_seen, pairs_at}
-use Rattle.segment_manager.specs.{State.DenotesCurrent, objects.Located.IsObject}
+use Rattle.segment_manager.specs.{State.DenotesCurrent}
 use Rattle.segment_c.specs.Reads.{TellsPair, first_at, first_in, item_in}
 use Rattle.segment_c.proofs.segment_slot.GoingOn.{reads}
-use Rattle.segment_c.proofs.views.Neighbours.{all-pairs, told-map, told-refused}
+use Rattle.segment_c.proofs.views.Neighbours.{all-pairs, told-map}
 use Rattle.segment_c.proofs.maps.zx_map_first.Goals as goal
 
 pub returns-in-Ok-map_of : goal.returns-in-Ok-map_of

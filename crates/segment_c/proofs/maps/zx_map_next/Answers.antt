@@ -1,5 +1,5 @@
 -- The pair above a number of the handle's map.
-use Rattle.std.proofs.Common.{◌≡◌, ◌∙◌, Ok, ap, option_map, of_z, rules, subst, sym, to_z, true, w64, ℤ}
+use Rattle.std.proofs.Common.{◌≡◌, ◌∙◌, Ok, option_map, of_z, rules, subst, sym, to_z, true, w64, ℤ}
 use Rattle.std.proofs.lemmas.Int.{to_z-of_z}
 use Rattle.seg_types.specs.{Commands.Integer, Kinds.is_value, Names.ByHandle, declared.kinds.ScalarKind.TheVariants.I64}
 use Rattle.segment_manager.proofs.ElementLaws.{literal-read}

@@ -123,14 +123,6 @@ TellsPair at value code (Err why) = code ≡ refusal_number why
 abbrev pub TellsPairOf : CScalar → CScalar → ℕ → Option (ScalarValue × ScalarValue) → Type 0
 TellsPairOf at value code pair = TellsPair at value code (Ok (option_map item_seen pair))
 
--- a call reads a pair of a map, and writes its key and its value to two outputs, if there is one and the code is 0
-pub record TellsNeighbour (say : Directory → Result (Option KindedPair) Refusal) (wrong code : ℕ)
-    (before after : SegmentSlot) (at at' value value' : CScalar) : Type 0
-  where
-    pub read : ReadsHandle wrong code before after (λ s. (d : Directory) → DenotesCurrent s.cut.bytes d
-        → TellsPair at' value' code (say d))
-    pub outputs_on_error : 1 ≤ code → (at' ≡ at) × (value' ≡ value)
-
 -- a call reads the element at an index of the object of a key, and says it if the code is 0
 pub record TellsElement (key : ObjectKey) (index code : ℕ) (before after : SegmentSlot) (old new : CScalar) : Type 0
   where

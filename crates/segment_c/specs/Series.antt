@@ -1,7 +1,7 @@
 -- Pairs of a map that C reads several at a time, as two series of numbers of 64 bits.
-use Rattle.std.specs.Prelude.{◌≡◌, ℕ, ◌+◌, ℤ, ◌-ℤ◌, pos, int_lt, if◌then◌else◌, Bool, List, ◌++◌, length, take}
+use Rattle.std.specs.Prelude.{◌≡◌, ℕ, ℤ, ◌-ℤ◌, pos, int_lt, if◌then◌else◌, Bool, List, ◌++◌, length, take}
 use Rattle.std.specs.Prelude.{drop, map, min, Result, Ok, Err}
-use Rattle.seg_map.specs.{Listing.pairs_past, Numbers.NumberPair, Places.item_of}
+use Rattle.seg_map.specs.{Listing.pairs_past, Numbers.NumberPair}
 use Rattle.seg_types.specs.{Commands.Literal, Commands.value_of_literal, Names.ByHandle, Names.Key}
 use Rattle.seg_types.specs.{declared.kinds.ScalarKind.ScalarKind, declared.refusals.Refusal.Refusal}
 use Rattle.segment_c.specs.Reads.{by_kinds, map_kinds_at}

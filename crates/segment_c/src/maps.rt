@@ -1,14 +1,17 @@
 //! Maps: values at keys, and neighbours.
-ghost use Rattle.std.specs.Prelude.{◌≡◌, ◌≤◌, Err, IfOk, IfSome, MatchResult, Ok, OnErr, false};
+ghost use Rattle.std.specs.Prelude.{◌≡◌, ◌≤◌, Err, IfOk, IfSome, MatchResult, Ok, OnErr, false, option_map};
 ghost use Rattle.seg_types.specs.Commands.{Integer, Lookup, Put, Remove};
 ghost use Rattle.seg_types.specs.{Keys.key_seen, Names.ByHandle, Written.literal_seen};
 ghost use Rattle.seg_types.specs.declared.kinds.{Kind.TheVariants.Map as MapOf, ScalarKind.TheVariants.I64};
-ghost use Rattle.segment_c.specs.{Calls.ReachesSegment, Handles.AsksSegment, Handles.StepsSegment};
+ghost use Rattle.segment_c.specs.{Calls.ReachesSegment, Codes.answer_for};
+ghost use Rattle.segment_c.specs.Handles.{AsksHandle, ChangesHandle, ReadsHandle};
 ghost use Rattle.segment_c.specs.Passed.{element_in, key_of, key_wrong, literal_in, or_else, value_wrong};
-ghost use Rattle.segment_c.specs.Reads.{TellsNeighbour, TellsPairOf, first_at, map_kinds_at, next_at};
-ghost use Rattle.segment_manager.specs.{Answers.Boolean, Keeping.UnchangedWhere, Step.is_read_only};
-ghost use Rattle.segment_manager.specs.State.{AnswersWith, TakesStep, truth_answer};
-ghost use Rattle.segment_manager.specs.objects.Located.{IsLocated};
+ghost use Rattle.segment_c.specs.Reads.{TellsPair, TellsPairOf, first_at, map_kinds_at, next_at};
+ghost use Rattle.segment_manager.specs.{Answers.Boolean, Directory.Directory, Keeping.UnchangedWhere};
+ghost use Rattle.segment_manager.specs.{Step.is_read_only, objects.BoundObjects.IsBound, objects.Located.IsLocated};
+ghost use Rattle.segment_manager.specs.State.{AnswersQuery, AnswersQueryOfKind, AnswersWith, DenotesCurrent, TakesStep};
+ghost use Rattle.segment_manager.specs.State.{TakesStepOfKind, truth_answer};
+ghost use Rattle.segment_manager.specs.containers.{Maps.any_value_answer, Walks.item_of_kinds};
 ghost use Rattle.segment_values.specs.Absent.{LacksLiteral};
 
 use crate::calls::{enter, enter_pair, enter_with, passed};
@@ -19,8 +22,8 @@ use crate::values::CScalar;
 use seg_types::theorems::holds_value;
 use seg_types::{Handle, Key, Kind, Refusal, ScalarKind, ScalarValue, WrittenValue};
 use segment_manager::unchecked::object_of_kind;
-use segment_manager::{Mode, Object, Segment, is_remembered, locate};
-use segment_values::{first_pair, insert_pair, look_up_scalar, next_pair};
+use segment_manager::{Map, MapMut, Mode, Object, Segment, is_remembered, locate};
+use segment_values::{first_pair, next_pair};
 use std::alloc::Global;
 
 /// The kind of maps from `i64` to `i64`.
@@ -82,15 +85,16 @@ pub extern "C" fn zx_map_get(
     at: &CScalar,
     value: &mut CScalar,
 ) -> u32
-    ensures { AsksSegment element_in (or_else (key_wrong key.now) (value_wrong at.now))
-        (Lookup (key_of key.now) (literal_in at.now)) result h.old h.new value.old value.new }
+    ensures call { AsksHandle (or_else (key_wrong key.now) (value_wrong at.now)) result h.old h.new
+        (λ s t. AnswersQuery s (Lookup (key_of key.now) (literal_in at.now))
+        (answer_for result (element_in value.new))) }
+    ensures outputs_on_error { 1 ≤ result → value.new ≡ value.old }
 {
     let (Some(handle), Some(number)) = (key.as_handle(), at.as_i64()) else {
         return get_any(alloc, h, key, at, value);
     };
     let (segment, object) = numbers_or!(alloc, h, handle, get_any(alloc, h, key, at, value));
-    holds_value(number);
-    let found = look_up_scalar(&segment, object, ScalarValue::I64(number), ScalarKind::I64);
+    let found = number_at(&segment, handle, object, number);
     value_found(Ok(found), value, h, segment)
 }
 
@@ -103,12 +107,37 @@ fn get_any(
     at: &CScalar,
     value: &mut CScalar,
 ) -> u32
-    ensures { AsksSegment element_in (or_else (key_wrong key.now) (value_wrong at.now))
-        (Lookup (key_of key.now) (literal_in at.now)) result h.old h.new value.old value.new }
+    ensures call { AsksHandle (or_else (key_wrong key.now) (value_wrong at.now)) result h.old h.new
+        (λ s t. AnswersQuery s (Lookup (key_of key.now) (literal_in at.now))
+        (answer_for result (element_in value.new))) }
+    ensures outputs_on_error { 1 ≤ result → value.new ≡ value.old }
 {
     let (which, wanted, segment) = passed!(enter_with(alloc, h, key, at));
     let answer = segment_values::look_up(&segment, &which, &wanted);
     value_found(answer, value, h, segment)
+}
+
+/// Returns the value of a number in the map from `i64` to `i64` of a handle.
+#[inline(always)]
+fn number_at(segment: &Segment, _handle: Handle, object: Object, at: i64) -> Option<ScalarValue>
+    requires location { IsLocated segment.now (ByHandle _handle) object }
+    requires kind { object.kind ≡ MapOf I64 I64 }
+    ensures { AnswersQuery segment.now (Lookup (ByHandle _handle) (Integer at)) (any_value_answer (Ok result)) }
+{
+    holds_value(at);
+    number_in(segment, object, at)
+}
+
+/// Returns the value of a number in a located map from `i64` to `i64`.
+#[inline(always)]
+fn number_in(segment: &Segment, object: Object, at: i64) -> Option<ScalarValue>
+    requires { IsBound (MapOf I64 I64) object segment.now }
+    ensures { AnswersQueryOfKind segment.now (ByHandle object.handle) (MapOf I64 I64)
+        (Lookup (ByHandle object.handle) (Integer at)) (any_value_answer (Ok result)) }
+{
+    Map::<i64, i64>::at(segment, object)
+        .get(at)
+        .map(ScalarValue::I64)
 }
 
 /// Puts a value at a key of the map of a key, and says whether that is new.
@@ -121,9 +150,11 @@ pub extern "C" fn zx_map_put(
     value: &CScalar,
     is_new: &mut bool,
 ) -> u32
-    ensures { StepsSegment Boolean (or_else (key_wrong key.now)
-        (or_else (value_wrong at.now) (value_wrong value.now)))
-        (Put (key_of key.now) (literal_in at.now) (literal_in value.now)) result h.old h.new is_new.old is_new.new }
+    ensures call { ChangesHandle (or_else (key_wrong key.now) (or_else (value_wrong at.now) (value_wrong value.now)))
+        result h.old h.new
+        (λ s t. TakesStep s t (Put (key_of key.now) (literal_in at.now) (literal_in value.now))
+        (answer_for result (Boolean is_new.new))) }
+    ensures outputs_on_error { 1 ≤ result → is_new.new ≡ is_new.old }
 {
     let (Some(handle), Some(number), Some(new)) = (key.as_handle(), at.as_i64(), value.as_i64())
     else {
@@ -143,8 +174,10 @@ fn number_put(
     is_new: &mut bool,
     value: i64,
 ) -> u32
-    ensures { StepsSegment Boolean 0 (Put (ByHandle handle) (Integer at) (Integer value)) result h.old h.new
-        is_new.old is_new.new }
+    ensures call { ChangesHandle 0 result h.old h.new
+        (λ s t. TakesStep s t (Put (ByHandle handle) (Integer at) (Integer value))
+        (answer_for result (Boolean is_new.new))) }
+    ensures outputs_on_error { 1 ≤ result → is_new.new ≡ is_new.old }
 {
     let mut segment = passed!(take(alloc, h));
     if segment.mode() != Mode::ReadOnly {
@@ -179,12 +212,19 @@ fn put_at(
         (truth_answer result) }
     ensures refused { OnErr result (segment.new ≡ segment.old) }
 {
-    insert_pair(
-        segment,
-        object,
-        ScalarValue::I64(at),
-        ScalarValue::I64(value),
-    )
+    put_in(segment, object, at, value)
+}
+
+/// Puts a number at a number in a located map from `i64` to `i64`, and returns true if that is new.
+#[inline(always)]
+fn put_in(segment: &mut Segment, object: Object, at: i64, value: i64) -> Result<bool, Refusal>
+    requires object { IsBound (MapOf I64 I64) object segment.old }
+    requires writing { is_read_only segment.old.mode ≡ false }
+    ensures step { TakesStepOfKind segment.old segment.new (ByHandle object.handle) (MapOf I64 I64)
+        (Put (ByHandle object.handle) (Integer at) (Integer value)) (truth_answer result) }
+    ensures refused { OnErr result (segment.new ≡ segment.old) }
+{
+    MapMut::<i64, i64>::at(segment, object).insert(at, value)
 }
 
 /// Puts a value at a key of the map of a key, for any form of key and any two values.
@@ -197,9 +237,11 @@ fn put_any(
     value: &CScalar,
     is_new: &mut bool,
 ) -> u32
-    ensures { StepsSegment Boolean (or_else (key_wrong key.now)
-        (or_else (value_wrong at.now) (value_wrong value.now)))
-        (Put (key_of key.now) (literal_in at.now) (literal_in value.now)) result h.old h.new is_new.old is_new.new }
+    ensures call { ChangesHandle (or_else (key_wrong key.now) (or_else (value_wrong at.now) (value_wrong value.now)))
+        result h.old h.new
+        (λ s t. TakesStep s t (Put (key_of key.now) (literal_in at.now) (literal_in value.now))
+        (answer_for result (Boolean is_new.new))) }
+    ensures outputs_on_error { 1 ≤ result → is_new.new ≡ is_new.old }
 {
     let (which, new_key, new_value, mut segment) = passed!(enter_pair(alloc, h, key, at, value));
     let answer = put_pair(&mut segment, &which, new_key, new_value);
@@ -252,11 +294,13 @@ pub extern "C" fn zx_map_erase(
     at: &CScalar,
     was_there: &mut bool,
 ) -> u32
-    ensures call { StepsSegment Boolean (or_else (key_wrong key.now) (value_wrong at.now))
-        (Remove (key_of key.now) (literal_in at.now)) result h.old h.new was_there.old was_there.new }
+    ensures call { ChangesHandle (or_else (key_wrong key.now) (value_wrong at.now)) result h.old h.new
+        (λ s t. TakesStep s t (Remove (key_of key.now) (literal_in at.now))
+        (answer_for result (Boolean was_there.new))) }
     ensures absent { ReachesSegment (or_else (key_wrong key.now) (value_wrong at.now)) result h.old.segment.value
         h.new.segment.value
         (λ s t. UnchangedWhere s t (LacksLiteral (key_of key.now) (literal_in at.now))) }
+    ensures outputs_on_error { 1 ≤ result → was_there.new ≡ was_there.old }
 {
     let (which, gone, mut segment) = passed!(enter_with(alloc, h, key, at));
     let answer = segment_values::erase_pair(&mut segment, &which, &gone);
@@ -272,16 +316,28 @@ pub extern "C" fn zx_map_first(
     at: &mut CScalar,
     value: &mut CScalar,
 ) -> u32
-    ensures { TellsNeighbour (λ d. first_at d (key_of key.now)) (key_wrong key.now) result h.old h.new at.old at.new
-        value.old value.new }
+    ensures read { ReadsHandle (key_wrong key.now) result h.old h.new
+        (λ s. (d : Directory) → DenotesCurrent s.cut.bytes d
+        → TellsPair at.new value.new result (first_at d (key_of key.now))) }
+    ensures outputs_on_error { 1 ≤ result → (at.new ≡ at.old) × (value.new ≡ value.old) }
 {
     let (which, segment) = passed!(enter(alloc, h, key));
-    match map_of(&segment, &which) {
-        Ok((object, keys, values)) => {
-            let code = pair_out(first_pair(&segment, object, keys, values), at, value);
-            put(code, h, segment)
-        }
-        Err(why) => put(code_of(why), h, segment),
+    put(first(&segment, &which, at, value), h, segment)
+}
+
+/// Returns the pair with the least key of the map of a key in a segment.
+fn first(segment: &Segment, key: &Key, at: &mut CScalar, value: &mut CScalar) -> u32
+    ensures read { (d : Directory) → DenotesCurrent segment.now.cut.bytes d
+        → TellsPair at.new value.new result (first_at d (key_seen key.now)) }
+    ensures unchanged_on_error { 1 ≤ result → (at.new ≡ at.old) × (value.new ≡ value.old) }
+{
+    match map_of(segment, key) {
+        Ok((object, keys, values)) => pair_out(
+            first_pair(segment, object, keys, values),
+            at,
+            value,
+        ),
+        Err(why) => code_of(why),
     }
 }
 
@@ -295,8 +351,10 @@ pub extern "C" fn zx_map_next(
     at: &mut CScalar,
     value: &mut CScalar,
 ) -> u32
-    ensures { TellsNeighbour (λ d. next_at d (key_of key.now) (literal_in after.now))
-        (or_else (key_wrong key.now) (value_wrong after.now)) result h.old h.new at.old at.new value.old value.new }
+    ensures read { ReadsHandle (or_else (key_wrong key.now) (value_wrong after.now)) result h.old h.new
+        (λ s. (d : Directory) → DenotesCurrent s.cut.bytes d
+        → TellsPair at.new value.new result (next_at d (key_of key.now) (literal_in after.now))) }
+    ensures outputs_on_error { 1 ≤ result → (at.new ≡ at.old) × (value.new ≡ value.old) }
 {
     let (Some(handle), Some(number)) = (key.as_handle(), after.as_i64()) else {
         return next_any(alloc, h, key, after, at, value);
@@ -307,10 +365,11 @@ pub extern "C" fn zx_map_next(
         handle,
         next_any(alloc, h, key, after, at, value)
     );
-    holds_value(number);
-    let pair = next_pair(&segment, object, ScalarValue::I64(number), ScalarKind::I64);
-    let code = pair_out(pair, at, value);
-    put(code, h, segment)
+    put(
+        next_number(&segment, handle, object, number, at, value),
+        h,
+        segment,
+    )
 }
 
 /// Returns the pair with the least key above `after` of the map of a key, for any form of key and any value.
@@ -323,24 +382,74 @@ fn next_any(
     at: &mut CScalar,
     value: &mut CScalar,
 ) -> u32
-    ensures { TellsNeighbour (λ d. next_at d (key_of key.now) (literal_in after.now))
-        (or_else (key_wrong key.now) (value_wrong after.now)) result h.old h.new at.old at.new value.old value.new }
+    ensures read { ReadsHandle (or_else (key_wrong key.now) (value_wrong after.now)) result h.old h.new
+        (λ s. (d : Directory) → DenotesCurrent s.cut.bytes d
+        → TellsPair at.new value.new result (next_at d (key_of key.now) (literal_in after.now))) }
+    ensures outputs_on_error { 1 ≤ result → (at.new ≡ at.old) × (value.new ≡ value.old) }
 {
-    let (which, bound, segment) = passed!(enter_with(alloc, h, key, after));
-    match map_of(&segment, &which) {
-        Ok((object, keys, values)) => match bound.value_of(keys) {
-            Ok(below) => {
-                let code = pair_out(next_pair(&segment, object, below, values), at, value);
-                put(code, h, segment)
-            }
-            Err(why) => put(code_of(why), h, segment),
+    let (which, below, segment) = passed!(enter_with(alloc, h, key, after));
+    put(next(&segment, &which, below, at, value), h, segment)
+}
+
+/// Returns the pair with the least key above a number of the map from `i64` to `i64` of a handle.
+#[inline(always)]
+fn next_number(
+    segment: &Segment,
+    _handle: Handle,
+    object: Object,
+    after: i64,
+    at: &mut CScalar,
+    value: &mut CScalar,
+) -> u32
+    requires location { IsLocated segment.now (ByHandle _handle) object }
+    requires kind { object.kind ≡ MapOf I64 I64 }
+    ensures read { (d : Directory) → DenotesCurrent segment.now.cut.bytes d
+        → TellsPair at.new value.new result (next_at d (ByHandle _handle) (Integer after)) }
+    ensures unchanged_on_error { 1 ≤ result → (at.new ≡ at.old) × (value.new ≡ value.old) }
+{
+    holds_value(after);
+    let pair = Map::<i64, i64>::at(segment, object).next_after(after);
+    numbers_out(pair, at, value)
+}
+
+/// Writes the numbers to the outputs and returns done; returns the code of no pair if there are none.
+#[inline(always)]
+fn numbers_out(pair: Option<(i64, i64)>, at: &mut CScalar, value: &mut CScalar) -> u32
+    ensures read { TellsPair at.new value.new result (Ok (option_map (item_of_kinds I64 I64) pair)) }
+    ensures unchanged_on_error { 1 ≤ result → (at.new ≡ at.old) × (value.new ≡ value.old) }
+{
+    match pair {
+        Some((its_key, its_value)) => {
+            *at = CScalar::of(ScalarValue::I64(its_key));
+            *value = CScalar::of(ScalarValue::I64(its_value));
+            DONE
+        }
+        None => ABSENT,
+    }
+}
+
+/// Returns the pair with the least key above `after` of the map of a key in a segment.
+fn next(
+    segment: &Segment,
+    key: &Key,
+    after: ScalarValue,
+    at: &mut CScalar,
+    value: &mut CScalar,
+) -> u32
+    ensures read { (d : Directory) → DenotesCurrent segment.now.cut.bytes d
+        → TellsPair at.new value.new result (next_at d (key_seen key.now) (literal_seen after)) }
+    ensures unchanged_on_error { 1 ≤ result → (at.new ≡ at.old) × (value.new ≡ value.old) }
+{
+    match map_of(segment, key) {
+        Ok((object, keys, values)) => match after.value_of(keys) {
+            Ok(below) => pair_out(next_pair(segment, object, below, values), at, value),
+            Err(why) => code_of(why),
         },
-        Err(why) => put(code_of(why), h, segment),
+        Err(why) => code_of(why),
     }
 }
 
 /// Writes the pair to the outputs and returns done; returns the code of no pair if there is none.
-#[inline(always)]
 fn pair_out(pair: Option<(ScalarValue, ScalarValue)>, at: &mut CScalar, value: &mut CScalar) -> u32
     ensures read { TellsPairOf at.new value.new result pair }
     ensures unchanged_on_error { 1 ≤ result → (at.new ≡ at.old) × (value.new ≡ value.old) }

@@ -1,5 +1,5 @@
 -- The pairs of a map from a key on: the first of them is one of the map's pairs, and the others are above its key.
-use Rattle.std.proofs.Common.{◌≡◌, refl, sym, ap, subst, ◌∙◌, ◌<◌, ℤ, Bool, true, false, not, List, [], ◌∷◌, arith}
+use Rattle.std.proofs.Common.{◌≡◌, refl, sym, ap, subst, ◌∙◌, ℤ, Bool, true, false, not, List, [], ◌∷◌, arith}
 use Rattle.std.proofs.Common.{if◌then◌else◌, int_lt}
 use Rattle.std.proofs.lemmas.Bool.{eq-eqb, or_left, or_right}
 use Rattle.std.specs.Prelude.{nat_eq}

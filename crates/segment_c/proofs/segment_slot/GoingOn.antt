@@ -1,13 +1,13 @@
 -- A call goes on by another call of its handle: it ensures what that one ensures. Between the two the segment may have
 -- been taken and put back, and the arguments may be passed in another form.
-use Rattle.std.proofs.Common.{◌≡◌, ◌∙◌, ◌≤◌, IsTrue, ap, arith, pos, refl, subst, sym, ℕ, ℤ, None, Option, Some}
+use Rattle.std.proofs.Common.{◌≡◌, ◌∙◌, ◌≤◌, ap, arith, pos, refl, subst, sym, ℕ, ℤ, None, Option, Some}
 use Rattle.seg_types.specs.Commands.{Integer, Literal, literal_of}
 use Rattle.seg_types.specs.{declared.kinds.ScalarKind.ScalarKind, declared.kinds.ScalarKind.TheVariants.I64}
 use Rattle.segment_manager.specs.State.{SegmentState}
 use Rattle.segment_c.specs.{declared.values.CScalar.CScalar, Passed.literal_in, Passed.scalar_in, Passed.value_wrong}
 use Rattle.segment_c.specs.{declared.segment_slot.SegmentSlot.SegmentSlot, Handles.AsksHandle, Handles.ChangesHandle}
 use Rattle.segment_c.specs.Handles.{ReadsHandle}
-use Rattle.segment_c.specs.{Calls.HoldsSegment, Calls.PerformsCall, Codes.is_answer, Marked.RaisesMoves}
+use Rattle.segment_c.specs.{Calls.HoldsSegment, Calls.PerformsCall, Marked.RaisesMoves}
 
 -- a number that is passed
 module _ (v : CScalar) {n : ℤ} (e : scalar_in v ≡ Some (I64, n)) where
@@ -53,26 +53,9 @@ pub asks : {wrong code : ℕ} {old lent new : SegmentSlot} {P : SegmentState →
 asks back marks r =
     record { call = performs refl back (λ s t p. p) r.call; unchanged = r.unchanged ∙ back; marks = r.marks ∙ marks }
 
--- ---- a call takes the segment out of its handle, reads it, and puts it back
+-- ---- a call that reads the segment
 
--- it asks the segment
-pub asked : {wrong code : ℕ} {old new : SegmentSlot} {P : SegmentState → SegmentState → Type 0} {s : SegmentState}
-    → wrong ≡ 0 → old.segment.value ≡ Some s → new.segment.value ≡ Some s → new.marks ≡ old.marks
-    → IsTrue (is_answer code) → P s s → AsksHandle wrong code old new P
-asked {new = new} {P = P} {s} right was is marks answer p = record {
-  call = record {
-    stopped = λ w. absurd (omega (arith, right, w));
-    closed = λ w none. absurd (let e : Some s ≡ None = sym was ∙ none in cc);
-    asked = λ u w here.
-        let e : Some s ≡ Some u = sym was ∙ here in
-        let same : s ≡ u = cc in
-        (answer, subst (λ q. HoldsSegment q (P u)) (sym is) (subst (λ v. P v s) same p));
-  };
-  unchanged = is ∙ sym was;
-  marks = marks;
-}
-
--- it reads the segment
+-- the segment is taken out of its handle, read, and put back
 pub reads : {wrong code : ℕ} {old new : SegmentSlot} {P : SegmentState → Type 0} {s t : SegmentState} → wrong ≡ 0
     → old.segment.value ≡ Some s → new.segment.value ≡ Some s → new.marks ≡ old.marks → t ≡ s → P t
     → ReadsHandle wrong code old new P

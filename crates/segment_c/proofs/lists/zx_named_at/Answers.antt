@@ -1,7 +1,7 @@
 use Rattle.segment_c.proofs.lists.zx_named_at.Goals as goal
 use Rattle.std.proofs.{Common.arith, Common.refl, Common.subst, Common.sym, Common.◌∙◌, lemmas.Option.slice_get_past}
 use Rattle.segment_manager.specs.{Directory.named_objects, State.DenotesCurrent}
-use Rattle.segment_c.specs.Lists.{WritesInfo, WritesInfoIfFound}
+use Rattle.segment_c.specs.Lists.{WritesInfoIfFound}
 use Rattle.segment_c.proofs.{segment_slot.GoingOn.reads, views.Counts.named_is}
 
 pub named_instance-requires : goal.named_instance-requires

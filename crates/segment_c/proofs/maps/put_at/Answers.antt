@@ -9,10 +9,9 @@ use Rattle.segment_manager.proofs.Laws.{located-steps}
 -- the call passes its own numbers on
 pub returns-clause-step : goal.returns-clause-step
 returns-clause-step c =
-    let step = λ (y z : ℤ). TakesStepOfKind c.args.segment.now c.insert_pair.new.segment (key_of c.args.object)
-    (Map I64 I64) (Put (key_of c.args.object) (Integer y) (Integer z)) (truth_answer c.insert_pair.result) in
+    let step = λ (y z : ℤ). TakesStepOfKind c.args.segment.now c.put_in.new.segment (key_of c.args.object)
+    (Map I64 I64) (Put (key_of c.args.object) (Integer y) (Integer z)) (truth_answer c.put_in.result) in
     located-steps _ _ _ c.requires.location _ _
     (Put (ByHandle c.args._handle) (Integer c.args.at) (Integer c.args.value)) _ c.requires.kind
     (subst (λ (y : ℤ). step y c.args.value) (to_z-of_z w64 c.args.at c.ranges.at)
-    (subst (step (to_z w64 (of_z w64 c.args.at))) (to_z-of_z w64 c.args.value c.ranges.value)
-    c.insert_pair.ensures.step))
+    (subst (step (to_z w64 (of_z w64 c.args.at))) (to_z-of_z w64 c.args.value c.ranges.value) c.put_in.ensures.step))

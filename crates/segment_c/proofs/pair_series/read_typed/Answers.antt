@@ -2,14 +2,14 @@
 use Rattle.segment_c.proofs.pair_series.read_typed.Goals.{then-at-count+else-count-room+else-count-eq0, else-at-count}
 use Rattle.segment_c.proofs.pair_series.read_typed.Goals as goal
 use Rattle.std.proofs.Common.{◌≡◌, ◌∙◌, ap, arith, get_or, length, map, of_z, refl, subst, sym, take, to_z, w64, ℤ}
-use Rattle.std.proofs.Common.{◌<◌, ◌≤◌, ◌+◌}
+use Rattle.std.proofs.Common.{◌<◌, ◌≤◌}
 use Rattle.std.proofs.{lemmas.Int.to_z-of_z, lemmas.List.length-append, lemmas.List.length-drop}
 use Rattle.std.proofs.{Common.drop, lemmas.List.Edits.paste_none, lemmas.List.length-take}
 use Rattle.std.specs.Int.Signed.{mag}
 use Rattle.seg_types.specs.Names.{ByHandle}
 use Rattle.segment_manager.proofs.Laws.{map-rises}
-use Rattle.segment_manager.specs.containers.{Maps.count_read, Maps.numbers_in, Walks.HasPairNode, Walks.pairs_at_kinds}
-use Rattle.segment_manager.specs.{containers.Walks.ReadsPairNode, objects.BoundObjects.key_of}
+use Rattle.segment_manager.specs.containers.{Maps.count_read, Maps.numbers_in, Walks.pairs_at_kinds}
+use Rattle.segment_manager.specs.{containers.Walks.ReadsPairNode}
 use Rattle.segment_c.proofs.pair_series.Walk.{IsReady, all, filled, goes-on, is-there, listed-ready, none-read}
 use Rattle.segment_c.proofs.pair_series.Walk.{node-there, pair-told, part-begins, still-ready, told}
 use Rattle.segment_c.specs.Series.{key_bits, value_bits}

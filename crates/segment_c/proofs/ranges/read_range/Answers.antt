@@ -1,12 +1,12 @@
 -- The elements are read from the object that is located by the key that the object key is.
-use Rattle.std.proofs.Common.{◌≡◌, ◌∙◌, Err, List, None, Ok, Option, Result, Some, ap, length, map, refl, rules, subst}
+use Rattle.std.proofs.Common.{◌≡◌, ◌∙◌, Err, List, None, Option, Result, Some, ap, length, map, refl, rules, subst}
 use Rattle.std.proofs.Common.{sym, ℕ, ℤ}
 use Rattle.seg_types.specs.{Keys.key_seen, declared.kinds.ScalarKind.ScalarKind, declared.refusals.Refusal.Refusal}
 use Rattle.seg_types.specs.declared.refusals.Refusal.TheVariants.{NotFound}
 use Rattle.segment_manager.specs.{Directory.Object, State.AnswersWith, State.SegmentState}
 use Rattle.segment_manager.specs.containers.Ranges.{numbers_if, range_in}
 use Rattle.segment_manager.specs.objects.BoundObjects.{key_of as its_key}
-use Rattle.segment_manager.specs.{Directory.object_at, objects.Located.IsObject}
+use Rattle.segment_manager.specs.{Directory.object_at}
 use Rattle.segment_manager.proofs.Laws.{told-by_key}
 use Rattle.segment_values.specs.Ranges.{range_at, read_into}
 use Rattle.segment_c.specs.Reads.{IsCoded}

@@ -27,19 +27,33 @@ pub trait Bits: Scalar {
         ensures { result ≡ bits_of (Self.whole self) };
 }
 
-/// Implements `Bits` for the types of which each value is an `i64`.
-macro_rules! impl_bits {
-    ($($type:ty),*) => {
-        $(impl Bits for $type {
-            #[inline(always)]
-            fn bits(self) -> i64 {
-                i64::from(self)
-            }
-        })*
-    };
+impl Bits for bool {
+    #[inline(always)]
+    fn bits(self) -> i64 {
+        i64::from(self)
+    }
 }
 
-impl_bits!(bool, u8, i32, i64);
+impl Bits for u8 {
+    #[inline(always)]
+    fn bits(self) -> i64 {
+        i64::from(self)
+    }
+}
+
+impl Bits for i32 {
+    #[inline(always)]
+    fn bits(self) -> i64 {
+        i64::from(self)
+    }
+}
+
+impl Bits for i64 {
+    #[inline(always)]
+    fn bits(self) -> i64 {
+        self
+    }
+}
 
 impl Bits for u64 {
     #[inline(always)]

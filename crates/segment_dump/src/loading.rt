@@ -9,7 +9,7 @@ ghost use Rattle.segment_lang.specs.{Lexing.Bare, Tokens.next_token};
 ghost use Rattle.segment_manager.specs.declared.modes.Mode.TheVariants.{Write};
 ghost use Rattle.segment_dump.specs.Counting.{IsDumpPrefix, fronted};
 ghost use Rattle.segment_dump.specs.Notes.{without_notes};
-ghost use Rattle.segment_dump.specs.Lines.{BeginsWithVersion};
+ghost use Rattle.segment_dump.specs.Lines.{BeginsWithEntries, BeginsWithPrefix, BeginsWithSize, BeginsWithVersion};
 ghost use Rattle.segment_dump.specs.Reads.{Any, ended};
 ghost use Rattle.segment_dump.specs.Succeeding.{AreNumbers, IsNumber, JudgesDump, LiesOf, MakesObjects, ReadsLead};
 ghost use Rattle.segment_dump.specs.Succeeding.{IndexesOf, KeepsIndexes, Sizes};
@@ -47,8 +47,8 @@ use segment_manager::{CreateRefused, Mode, Segment};
 /// `BadSize`: no segment can have the size. `RegionTooSmall`: the region has too few bytes from `base` on. `NoSpace`:
 /// the objects need more bytes than the size, so the dumped segment was longer. `LongText`: a vector of strings has a
 /// text that is longer than the room. If no segment was begun, as for the last four errors, `load` gives the region
-/// back unchanged; otherwise it drops the region. The region also comes back if the first line does not begin as that
-/// of a dump does.
+/// back unchanged; otherwise it drops the region. The region also comes back if one of the first three lines is not as
+/// a dump has it.
 pub fn load(
     text: &[u8],
     room: &mut [u8],
@@ -148,7 +148,7 @@ fn declared_size(counted: Result<Count, usize>, said: u64) -> u64
 /// Returns the contents of the first three lines.
 fn read_prefix(lines: &mut Lines<'_>) -> Result<DumpPrefix, SyntaxError>
     ensures reading { Takes fronted IsDumpPrefix lines.old lines.new result }
-    ensures version { OnOk result (BeginsWithVersion lines.old) }
+    ensures prefix { OnOk result (BeginsWithPrefix lines.old) }
 {
     read_version(lines)?;
     let size = read_size(lines)?;
@@ -174,7 +174,7 @@ fn read_lead<'a>(lines: &mut Lines<'a>, token: &[u8]) -> Result<LineTokens<'a>, 
 /// Reads the first line.
 fn read_version(lines: &mut Lines<'_>) -> Result<(), SyntaxError>
     ensures reading { Takes version_said Any lines.old lines.new result }
-    ensures version { OnOk result (BeginsWithVersion lines.old) }
+    ensures version { OnOk result (BeginsWithVersion lines.old lines.new) }
 {
     let mut tokens = read_lead(lines, b"segment")?;
     tokens.expect(b"dump")?;
@@ -184,7 +184,8 @@ fn read_version(lines: &mut Lines<'_>) -> Result<(), SyntaxError>
 
 /// Returns the size.
 fn read_size(lines: &mut Lines<'_>) -> Result<u64, SyntaxError>
-    ensures { Takes size_said IsNumber lines.old lines.new result }
+    ensures reading { Takes size_said IsNumber lines.old lines.new result }
+    ensures size { IfOk result (λ size. BeginsWithSize size lines.old lines.new) }
 {
     numbers_are_decimals();
     let mut tokens = read_lead(lines, b"size")?;
@@ -195,7 +196,8 @@ fn read_size(lines: &mut Lines<'_>) -> Result<u64, SyntaxError>
 
 /// Returns the numbers of entries of the indexes.
 fn read_entries(lines: &mut Lines<'_>) -> Result<(u64, u64), SyntaxError>
-    ensures { Takes entries_said AreNumbers lines.old lines.new result }
+    ensures reading { Takes entries_said AreNumbers lines.old lines.new result }
+    ensures entries { IfOk result (λ entries. BeginsWithEntries entries.0 entries.1 lines.old lines.new) }
 {
     numbers_are_decimals();
     let mut tokens = read_lead(lines, b"indexes")?;

@@ -94,10 +94,10 @@ returns-clause-indexes c =
 
 pub returns-in-Err-make_objects-clause-region : goal.returns-in-Err-make_objects-clause-region
 returns-in-Err-make_objects-clause-region c = λ gone.
-    begins c.args.text.now c.new-lines.result c.read_prefix.result c.in-Ok.prefix c.read_prefix.ensures.version
+    begins c.args.text.now c.new-lines.result c.read_prefix.result c.in-Ok.prefix c.read_prefix.ensures.prefix
     c.in-Ok.is c.new-lines.ensures
 
 pub returns-clause-region : goal.returns-clause-region
 returns-clause-region c = on-err c.judge.result (λ refused gone.
-    begins c.args.text.now c.new-lines.result c.read_prefix.result c.in-Ok.prefix c.read_prefix.ensures.version
+    begins c.args.text.now c.new-lines.result c.read_prefix.result c.in-Ok.prefix c.read_prefix.ensures.prefix
     c.in-Ok.is c.new-lines.ensures)

@@ -12,11 +12,11 @@ ghost use Rattle.segment_dump.specs.Notes.{without_notes};
 ghost use Rattle.segment_dump.specs.Lines.{BeginsWithEntries, BeginsWithPrefix, BeginsWithSize, BeginsWithVersion};
 ghost use Rattle.segment_dump.specs.Reads.{Any, ended};
 ghost use Rattle.segment_dump.specs.Succeeding.{AreNumbers, IsNumber, JudgesDump, LiesOf, MakesObjects, ReadsLead};
-ghost use Rattle.segment_dump.specs.Succeeding.{IndexesOf, KeepsIndexes, Sizes};
+ghost use Rattle.segment_dump.specs.Succeeding.{CapacitiesOf, IndexesOf, KeepsCapacities, KeepsIndexes, Sizes};
 ghost use Rattle.segment_dump.specs.Succeeding.{Succeeds, SucceedsOf, Takes, Trims, entries_said, size_said};
 ghost use Rattle.segment_dump.specs.Succeeding.{version_said};
 ghost use Rattle.segment_dump.specs.Loading.{HasExactIndexes, HasSize, IsRequestedSize, IsExact, IsJudged, IsLacking};
-ghost use Rattle.segment_dump.specs.Loading.{IsLetGo, IsLoaded, LetsGoOfDumps};
+ghost use Rattle.segment_dump.specs.Loading.{HasExactCapacities, IsLetGo, IsLoaded, LetsGoOfDumps};
 ghost use Rattle.segment_dump.specs.Loading.{LiesIn, LoadsUnlessLacking, IsNotLoaded, IsRefusalOf, IsWrong, asked_of};
 ghost use Rattle.segment_dump.specs.Loading.{cause_in};
 ghost use Rattle.segment_dump.specs.Loading.{refusal_for};
@@ -39,7 +39,7 @@ use segment_manager::{CreateRefused, Mode, Segment};
 /// nothing in it is free. The new segment has the same objects as the dumped one: the same names, classes, kinds and
 /// values, and anonymous objects in the same order. `room` holds the longest text of a vector of strings: as many bytes
 /// as the dump has are enough. `load` leaves out notes after the dump ([`without_notes`]), so the new segment does not
-/// keep the capacities.
+/// keep the capacities. Each index, vector and string of the new segment has exactly the capacity for its elements.
 ///
 /// # Errors
 ///
@@ -65,6 +65,7 @@ pub fn load(
     ensures success { Succeeds (without_notes text.now) (length region) base size (length room.old) result }
     ensures place { IfOk result (LiesIn (without_notes text.now) region base size) }
     ensures indexes { IfOk result (HasExactIndexes (without_notes text.now)) }
+    ensures capacities { IfOk result (HasExactCapacities (without_notes text.now)) }
     ensures region { LetsGoOfDumps (without_notes text.now) result }
 {
     load_lines(without_notes(text), room, region, base, size)
@@ -86,6 +87,7 @@ fn load_lines(
     ensures success { Succeeds text.now (length region) base size (length room.old) result }
     ensures place { IfOk result (LiesIn text.now region base size) }
     ensures indexes { IfOk result (HasExactIndexes text.now) }
+    ensures capacities { IfOk result (HasExactCapacities text.now) }
     ensures region { LetsGoOfDumps text.now result }
 {
     let counted = count_dump(text);
@@ -112,6 +114,7 @@ fn make(
     ensures success { SucceedsOf text.now (length region) base size (length room.old) counted result }
     ensures place { LiesOf text.now region base size (length room.old) counted result }
     ensures indexes { IndexesOf text.now (length region) base size (length room.old) counted result }
+    ensures capacities { CapacitiesOf text.now (length region) base size (length room.old) counted result }
     ensures region { LetsGoOfDumps text.now result }
 {
     let mut lines = Lines::new(text);
@@ -352,6 +355,7 @@ fn judge(
     ensures success { JudgesDump segment text.now said size result }
     ensures place { IfOk result (λ s. EndsAt segment.cut s.cut (length s.cut.bytes)) }
     ensures indexes { KeepsIndexes segment result }
+    ensures capacities { KeepsCapacities segment result }
 {
     if !is_open(&segment) {
         return Err(unlike(text, 0));

@@ -6,7 +6,8 @@ use Rattle.best_fit.specs.Extents.{Extent, end_of, handle}
 use Rattle.seg_types.specs.{declared.kinds.Class.Class, declared.kinds.Kind.Kind, Kinds.class_code, Kinds.code_of}
 use Rattle.seg_types.specs.{Kinds.same_kind, Names.Key, Names.ByHandle, Names.ByKind, Names.ByName, Names.NoKey}
 use Rattle.seg_types.specs.declared.kinds.Class.TheVariants.{Anonymous, Named, Unique}
-use Rattle.segment_manager.specs.Directory.{Directory, Object, Value, extents_of, same_bytes, table_extents}
+use Rattle.segment_manager.specs.Directory.{Bytes, Directory, Elements, Numbers, Object, Pairs, Texts, Value}
+use Rattle.segment_manager.specs.Directory.{extents_of, same_bytes, table_extents}
 use Rattle.segment_dump.specs.Items.{DumpItem, count_of_content, item_of_object, kind_of_content}
 use Rattle.segment_lang.specs.Texts.{kind_text, name_text, number_text}
 
@@ -38,6 +39,20 @@ all_extents d = flat_map extents_of d.objects ++ (table_extents d.named ++ table
 abbrev pub IsRest : ℕ → Type 0
 IsRest n = (n ≡ 0) ⊎ (32 ≤ n)
 
+-- ---- capacities
+
+-- a vector, a string and a vector of strings have as many slots as elements
+abbrev pub HasExactCapacity : Value → Type 0
+HasExactCapacity (Numbers k zs) = ⊤
+HasExactCapacity (Elements k zs t) = t.capacity ≡ length zs
+HasExactCapacity (Bytes bs t) = t.capacity ≡ length bs
+HasExactCapacity (Pairs k v ps) = ⊤
+HasExactCapacity (Texts ps t) = t.capacity ≡ length ps
+
+-- no object has spare slots
+abbrev pub AreExact : List Object → Type 0
+AreExact = AllByRecursion (λ (o : Object). HasExactCapacity o.value)
+
 -- ---- a directory that is being built
 
 -- the capacities of the indexes, and the size in bytes
@@ -46,12 +61,13 @@ pub record Site : Type 0 where
   pub unique : ℕ
   pub size : ℕ
 
--- there are these objects, by their places, and room for the rest
+-- there are these objects, by their places and without spare slots, and room for the rest
 pub record HasBuiltItems (d : Directory) (site : Site) (done : List DumpItem) (rest : ℕ) : Type 0 where
   pub size_is : d.size ≡ site.size
   pub named : d.named.capacity ≡ site.named
   pub unique : d.unique.capacity ≡ site.unique
   pub items : map item_of_object d.objects ≡ done
+  pub exact : AreExact d.objects
   pub room : HasExactRoom (all_extents d) d.size rest
 
 -- the class, the name and the handle of the object that is being filled
@@ -60,7 +76,7 @@ pub record Head : Type 0 where
   pub name : List ℕ
   pub handle : ℕ
 
--- the last of its objects is one with this value so far
+-- the last of its objects is one with this value so far, and those before it have no spare slots
 pub record IsFilling (d : Directory) (site : Site) (done : List DumpItem) (head : Head) (v : Value) (rest : ℕ) :
     Type 0 where
   pub size_is : d.size ≡ site.size
@@ -70,6 +86,7 @@ pub record IsFilling (d : Directory) (site : Site) (done : List DumpItem) (head 
   pub object : Object
   pub objects : d.objects ≡ before ++ object ∷ []
   pub items : map item_of_object before ≡ done
+  pub exact : AreExact before
   pub class_is : object.class ≡ head.class
   pub name_is : object.name ≡ head.name
   pub handle_is : head.handle ≡ handle object.extent

@@ -130,11 +130,11 @@ strings_course t = record {
   need = λ back. (all_needs text_needs back).room;
 }
 
--- the value has capacity for all elements that are still to come
+-- the value has capacity for exactly all elements
 pub record HasReservedSlots {X Y : Type 0} (way : BackingArray → FillCourse X Y) (all : List Y) (n : ℕ) (v : Value)
     (text : List ℕ) (need : ℕ) : Type 0 where
   pub table : BackingArray
-  pub slots : length all ≤ table.capacity
+  pub slots : table.capacity ≡ length all
   pub part : HasFirstElements (way table) all n v text need
 
 -- a value has the first elements of a content, and these lines are left

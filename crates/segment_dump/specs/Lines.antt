@@ -1,11 +1,11 @@
 -- Reading a text line by line, and a line word by word: whatever is spelled in front is read.
 use Rattle.std.specs.Prelude.{◌≡◌, ◌≤◌, ℕ, List, [], ◌++◌, Option, Some, None, Result, Ok, Err, codes, length}
-use Rattle.std.specs.Prelude.{option_map}
+use Rattle.std.specs.Prelude.{option_map, OnOk, ◌∷◌}
 use Rattle.std.specs.Borrow.{Bor}
 use Rattle.seg_types.specs.{declared.kinds.ScalarKind.ScalarKind, Values.scalar_of}
 use Rattle.seg_types.specs.declared.values.ScalarValue.{ScalarValue}
-use Rattle.segment_lang.specs.{Reading.value_for, Seen.token_of, Tokens.next_token, Lexing.Token, Lexing.Bare}
-use Rattle.segment_lang.specs.{Lexing.Text}
+use Rattle.segment_lang.specs.{Reading.number, Reading.value_for, Seen.token_of, Tokens.next_token}
+use Rattle.segment_lang.specs.Lexing.{Bare, Text, Token}
 use Rattle.segment_lang.specs.declared.tokens.Token.{Token as Held}
 use Rattle.segment_dump.specs.Reads.{HasNoEnd, ended}
 
@@ -58,21 +58,59 @@ seen_bytes (Err e) = Err e
 pub record ReadsThis {E : Type 0} (token text rest : List ℕ) (result : Result (Unit {0}) E) : Type 0 where
   pub reads : (a : List ℕ) → next_token text ≡ Some (Bare token, a) → (result ≡ Ok tt) × (rest ≡ a)
 
--- nothing is left
+-- the reader succeeds exactly if nothing is left
 pub record ReadsEnd {E : Type 0} (text : List ℕ) (result : Result (Unit {0}) E) : Type 0 where
   pub reads : text ≡ [] → result ≡ Ok tt
+  pub exact : OnOk result (text ≡ [])
 
--- the first line of the text begins with the three words of the version
-pub record BeginsWithVersion (text : List ℕ) : Type 0 where
+-- ---- the first three lines of a dump
+
+-- the line has these tokens, and no more
+abbrev pub HasTokens : List ℕ → List Token → Type 0
+HasTokens line [] = line ≡ []
+HasTokens line (w ∷ ws) = (behind : List ℕ) × (next_token line ≡ Some (w, behind)) × HasTokens behind ws
+
+-- the first line of the text has these tokens, and the rest stands behind it
+pub record BeginsWithLine (tokens : List Token) (text rest : List ℕ) : Type 0 where
   pub line : List ℕ
-  pub rest : List ℕ
   pub is : text ≡ ended line ++ rest
-  pub behind_segment : List ℕ
-  pub first : next_token line ≡ Some (Bare (codes "segment"), behind_segment)
-  pub behind_dump : List ℕ
-  pub second : next_token behind_segment ≡ Some (Bare (codes "dump"), behind_dump)
-  pub behind_one : List ℕ
-  pub third : next_token behind_dump ≡ Some (Bare (codes "1"), behind_one)
+  pub has : HasTokens line tokens
+
+-- the first line has the three tokens of the version
+abbrev pub BeginsWithVersion : List ℕ → List ℕ → Type 0
+BeginsWithVersion = BeginsWithLine (Bare (codes "segment") ∷ Bare (codes "dump") ∷ Bare (codes "1") ∷ [])
+
+-- the next token stands for this number
+pub record BeginsWithNumber (n : ℕ) (text rest : List ℕ) : Type 0 where
+  pub token : Token
+  pub is : number token ≡ Some n
+  pub read : next_token text ≡ Some (token, rest)
+
+-- the first line says this size
+pub record BeginsWithSize (size : ℕ) (text rest : List ℕ) : Type 0 where
+  pub token : Token
+  pub is : number token ≡ Some size
+  pub has : BeginsWithLine (Bare (codes "size") ∷ token ∷ []) text rest
+
+-- the first line says these numbers of entries
+pub record BeginsWithEntries (named unique : ℕ) (text rest : List ℕ) : Type 0 where
+  pub first : Token
+  pub first_is : number first ≡ Some named
+  pub second : Token
+  pub second_is : number second ≡ Some unique
+  pub has : BeginsWithLine (Bare (codes "indexes") ∷ first ∷ second ∷ []) text rest
+
+-- the first three lines say the version, a size, and two numbers of entries
+pub record BeginsWithPrefix (text : List ℕ) : Type 0 where
+  pub sized : List ℕ
+  pub version : BeginsWithVersion text sized
+  pub size : ℕ
+  pub indexed : List ℕ
+  pub size_is : BeginsWithSize size sized indexed
+  pub named : ℕ
+  pub unique : ℕ
+  pub rest : List ℕ
+  pub entries : BeginsWithEntries named unique indexed rest
 
 -- a word that stands for the bytes
 pub data IsTokenOf (bytes : List ℕ) : Token → Type 0 where

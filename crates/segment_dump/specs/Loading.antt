@@ -8,7 +8,7 @@ use Rattle.segment_manager.specs.declared.modes.Mode.TheVariants.{Write}
 use Rattle.segment_manager.specs.{Directory.Directory, Directory.live, State.SegmentState, State.DenotesCurrent}
 use Rattle.segment_dump.specs.{Items.portable, Texts.dump_text, Need.items_needs, Comparing.IsDumpOf}
 use Rattle.segment_dump.specs.{Places.line_column_behind, declared.counting.Count.Count, Counting.CountsDump}
-use Rattle.segment_dump.specs.Lines.{BeginsWithVersion}
+use Rattle.segment_dump.specs.{Building.AreExact, Lines.BeginsWithPrefix}
 use Rattle.segment_dump.specs.{Counting.IsCounted, declared.faults.BadDump.BadDump, declared.faults.LoadError.LoadError}
 use Rattle.segment_dump.specs.{declared.faults.LoadRefused.LoadRefused, declared.faults.LoadError.TheVariants.LongText}
 use Rattle.segment_dump.specs.declared.faults.LoadError.TheVariants.{BadDump as Bad, BadSize, RegionTooSmall, NoSpace}
@@ -58,6 +58,17 @@ pub record HasIndexes (named unique : ℕ) (s : SegmentState) : Type 0 where
 pub record HasExactIndexes (text : List ℕ) (s : SegmentState) : Type 0 where
   pub exact : (b : List ℕ) (d : Directory) (n : ℕ) → DenotesCurrent b d → n < 2 ^ 64 → text ≡ dump_text n (portable d)
       → HasIndexes (length (portable d).named) (length (portable d).unique) s
+
+-- the bytes denote a directory whose vectors, strings and vectors of strings have as many slots as elements
+pub record HasNoSpareSlots (s : SegmentState) : Type 0 where
+  pub directory : Directory
+  pub stands : DenotesCurrent s.cut.bytes directory
+  pub exact : AreExact directory.objects
+
+-- Whatever segment the text is the dump of, no vector, string or vector of strings of the loaded one has spare slots.
+pub record HasExactCapacities (text : List ℕ) (s : SegmentState) : Type 0 where
+  pub exact : (b : List ℕ) (d : Directory) (n : ℕ) → DenotesCurrent b d → n < 2 ^ 64 → text ≡ dump_text n (portable d)
+      → HasNoSpareSlots s
 
 -- ---- no segment is made
 
@@ -171,6 +182,6 @@ pub record IsLetGo (text : List ℕ) (refused : LoadRefused) : Type 0 where
   pub why : IsWrong text refused.cause
   pub gone : refused.region ≡ None
 
--- a refused load lets its region go only if the first line of the text begins as that of a dump does
+-- a refused load lets its region go only if the first three lines of the text are as a dump has them
 abbrev pub LetsGoOfDumps : List ℕ → Result SegmentState LoadRefused → Type 0
-LetsGoOfDumps text result = IfErr result (λ refused. refused.region ≡ None → BeginsWithVersion text)
+LetsGoOfDumps text result = IfErr result (λ refused. refused.region ≡ None → BeginsWithPrefix text)

@@ -12,10 +12,11 @@ use Rattle.segment_manager.specs.{Directory.live, blocks.Resized.shrunk, State.S
 use Rattle.segment_dump.specs.{declared.counting.Count.Count, declared.counting.DumpPrefix.DumpPrefix}
 use Rattle.segment_dump.specs.{declared.faults.LoadRefused.LoadRefused, Builders.AreLeft, Filling.StandsBuilt}
 use Rattle.segment_dump.specs.{Items.DumpItem, Items.Items, Items.portable, Lines.IsShortLine, Loading.IsRequestedSize}
-use Rattle.segment_dump.specs.{Loading.HasIndexes, Loading.asked_of, Loading.refusal_for, Order.all_items}
+use Rattle.segment_dump.specs.{Loading.HasIndexes, Loading.HasNoSpareSlots}
+use Rattle.segment_dump.specs.{Loading.asked_of, Loading.refusal_for, Order.all_items}
 use Rattle.segment_dump.specs.{Reads.HasNoEnd, Reads.ended}
 use Rattle.segment_dump.specs.{Texts.dump_text, Texts.end_text, Texts.items_text}
-use Rattle.segment_dump.specs.Building.{AreSortedItems, Site, kind_less, name_less}
+use Rattle.segment_dump.specs.Building.{AreExact, AreSortedItems, Site, kind_less, name_less}
 use Rattle.segment_dump.specs.Need.{all_needs, prefix_room, item_needs, items_needs}
 
 -- ---- the first lines
@@ -143,10 +144,22 @@ pub record IndexesOf (text : List ℕ) (capacity base : ℕ) (size : Option ℕ)
       → refusal_for capacity base size room (record { size = n; needs = items_needs (portable d) }) ≡ None
       → IfOk result (HasIndexes (length (portable d).named) (length (portable d).unique))
 
+-- the segment of a load of counted objects has no spare slots, if nothing is lacking
+pub record CapacitiesOf (text : List ℕ) (capacity base : ℕ) (size : Option ℕ) (room : ℕ) (counted : Result Count ℕ)
+    (result : Result SegmentState LoadRefused) : Type 0 where
+  pub exact : (b : List ℕ) (d : Directory) (n : ℕ) → DenotesCurrent b d → n < 2 ^ 64
+      → text ≡ dump_text n (portable d) → counted ≡ Ok (record { size = n; needs = items_needs (portable d) })
+      → refusal_for capacity base size room (record { size = n; needs = items_needs (portable d) }) ≡ None
+      → IfOk result HasNoSpareSlots
+
 -- the indexes of a segment keep their capacities
 pub record KeepsIndexes (s : SegmentState) (result : Result SegmentState LoadRefused) : Type 0 where
   pub keeps : (d : Directory) → DenotesCurrent s.cut.bytes d
       → IfOk result (HasIndexes d.named.capacity d.unique.capacity)
+
+-- a segment without spare slots gets none
+pub record KeepsCapacities (s : SegmentState) (result : Result SegmentState LoadRefused) : Type 0 where
+  pub keeps : (d : Directory) → DenotesCurrent s.cut.bytes d → AreExact d.objects → IfOk result HasNoSpareSlots
 
 -- without the gap at the end, if no size is requested
 abbrev pub trimmed : Directory → Option ℕ → Directory

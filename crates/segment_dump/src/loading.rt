@@ -9,14 +9,14 @@ ghost use Rattle.segment_lang.specs.{Lexing.Bare, Tokens.next_token};
 ghost use Rattle.segment_manager.specs.declared.modes.Mode.TheVariants.{Write};
 ghost use Rattle.segment_dump.specs.Counting.{IsDumpPrefix, fronted};
 ghost use Rattle.segment_dump.specs.Notes.{without_notes};
-ghost use Rattle.segment_dump.specs.Lines.{BeginsWithVersion};
+ghost use Rattle.segment_dump.specs.Lines.{BeginsWithEntries, BeginsWithPrefix, BeginsWithSize, BeginsWithVersion};
 ghost use Rattle.segment_dump.specs.Reads.{Any, ended};
 ghost use Rattle.segment_dump.specs.Succeeding.{AreNumbers, IsNumber, JudgesDump, LiesOf, MakesObjects, ReadsLead};
-ghost use Rattle.segment_dump.specs.Succeeding.{IndexesOf, KeepsIndexes, Sizes};
+ghost use Rattle.segment_dump.specs.Succeeding.{CapacitiesOf, IndexesOf, KeepsCapacities, KeepsIndexes, Sizes};
 ghost use Rattle.segment_dump.specs.Succeeding.{Succeeds, SucceedsOf, Takes, Trims, entries_said, size_said};
 ghost use Rattle.segment_dump.specs.Succeeding.{version_said};
 ghost use Rattle.segment_dump.specs.Loading.{HasExactIndexes, HasSize, IsRequestedSize, IsExact, IsJudged, IsLacking};
-ghost use Rattle.segment_dump.specs.Loading.{IsLetGo, IsLoaded, LetsGoOfDumps};
+ghost use Rattle.segment_dump.specs.Loading.{HasExactCapacities, IsLetGo, IsLoaded, LetsGoOfDumps};
 ghost use Rattle.segment_dump.specs.Loading.{LiesIn, LoadsUnlessLacking, IsNotLoaded, IsRefusalOf, IsWrong, asked_of};
 ghost use Rattle.segment_dump.specs.Loading.{cause_in};
 ghost use Rattle.segment_dump.specs.Loading.{refusal_for};
@@ -39,7 +39,7 @@ use segment_manager::{CreateRefused, Mode, Segment};
 /// nothing in it is free. The new segment has the same objects as the dumped one: the same names, classes, kinds and
 /// values, and anonymous objects in the same order. `room` holds the longest text of a vector of strings: as many bytes
 /// as the dump has are enough. `load` leaves out notes after the dump ([`without_notes`]), so the new segment does not
-/// keep the capacities.
+/// keep the capacities. Each index, vector and string of the new segment has exactly the capacity for its elements.
 ///
 /// # Errors
 ///
@@ -47,8 +47,8 @@ use segment_manager::{CreateRefused, Mode, Segment};
 /// `BadSize`: no segment can have the size. `RegionTooSmall`: the region has too few bytes from `base` on. `NoSpace`:
 /// the objects need more bytes than the size, so the dumped segment was longer. `LongText`: a vector of strings has a
 /// text that is longer than the room. If no segment was begun, as for the last four errors, `load` gives the region
-/// back unchanged; otherwise it drops the region. The region also comes back if the first line does not begin as that
-/// of a dump does.
+/// back unchanged; otherwise it drops the region. The region also comes back if one of the first three lines is not as
+/// a dump has it.
 pub fn load(
     text: &[u8],
     room: &mut [u8],
@@ -65,6 +65,7 @@ pub fn load(
     ensures success { Succeeds (without_notes text.now) (length region) base size (length room.old) result }
     ensures place { IfOk result (LiesIn (without_notes text.now) region base size) }
     ensures indexes { IfOk result (HasExactIndexes (without_notes text.now)) }
+    ensures capacities { IfOk result (HasExactCapacities (without_notes text.now)) }
     ensures region { LetsGoOfDumps (without_notes text.now) result }
 {
     load_lines(without_notes(text), room, region, base, size)
@@ -86,6 +87,7 @@ fn load_lines(
     ensures success { Succeeds text.now (length region) base size (length room.old) result }
     ensures place { IfOk result (LiesIn text.now region base size) }
     ensures indexes { IfOk result (HasExactIndexes text.now) }
+    ensures capacities { IfOk result (HasExactCapacities text.now) }
     ensures region { LetsGoOfDumps text.now result }
 {
     let counted = count_dump(text);
@@ -112,6 +114,7 @@ fn make(
     ensures success { SucceedsOf text.now (length region) base size (length room.old) counted result }
     ensures place { LiesOf text.now region base size (length room.old) counted result }
     ensures indexes { IndexesOf text.now (length region) base size (length room.old) counted result }
+    ensures capacities { CapacitiesOf text.now (length region) base size (length room.old) counted result }
     ensures region { LetsGoOfDumps text.now result }
 {
     let mut lines = Lines::new(text);
@@ -148,7 +151,7 @@ fn declared_size(counted: Result<Count, usize>, said: u64) -> u64
 /// Returns the contents of the first three lines.
 fn read_prefix(lines: &mut Lines<'_>) -> Result<DumpPrefix, SyntaxError>
     ensures reading { Takes fronted IsDumpPrefix lines.old lines.new result }
-    ensures version { OnOk result (BeginsWithVersion lines.old) }
+    ensures prefix { OnOk result (BeginsWithPrefix lines.old) }
 {
     read_version(lines)?;
     let size = read_size(lines)?;
@@ -174,7 +177,7 @@ fn read_lead<'a>(lines: &mut Lines<'a>, token: &[u8]) -> Result<LineTokens<'a>, 
 /// Reads the first line.
 fn read_version(lines: &mut Lines<'_>) -> Result<(), SyntaxError>
     ensures reading { Takes version_said Any lines.old lines.new result }
-    ensures version { OnOk result (BeginsWithVersion lines.old) }
+    ensures version { OnOk result (BeginsWithVersion lines.old lines.new) }
 {
     let mut tokens = read_lead(lines, b"segment")?;
     tokens.expect(b"dump")?;
@@ -184,7 +187,8 @@ fn read_version(lines: &mut Lines<'_>) -> Result<(), SyntaxError>
 
 /// Returns the size.
 fn read_size(lines: &mut Lines<'_>) -> Result<u64, SyntaxError>
-    ensures { Takes size_said IsNumber lines.old lines.new result }
+    ensures reading { Takes size_said IsNumber lines.old lines.new result }
+    ensures size { IfOk result (λ size. BeginsWithSize size lines.old lines.new) }
 {
     numbers_are_decimals();
     let mut tokens = read_lead(lines, b"size")?;
@@ -195,7 +199,8 @@ fn read_size(lines: &mut Lines<'_>) -> Result<u64, SyntaxError>
 
 /// Returns the numbers of entries of the indexes.
 fn read_entries(lines: &mut Lines<'_>) -> Result<(u64, u64), SyntaxError>
-    ensures { Takes entries_said AreNumbers lines.old lines.new result }
+    ensures reading { Takes entries_said AreNumbers lines.old lines.new result }
+    ensures entries { IfOk result (λ entries. BeginsWithEntries entries.0 entries.1 lines.old lines.new) }
 {
     numbers_are_decimals();
     let mut tokens = read_lead(lines, b"indexes")?;
@@ -350,6 +355,7 @@ fn judge(
     ensures success { JudgesDump segment text.now said size result }
     ensures place { IfOk result (λ s. EndsAt segment.cut s.cut (length s.cut.bytes)) }
     ensures indexes { KeepsIndexes segment result }
+    ensures capacities { KeepsCapacities segment result }
 {
     if !is_open(&segment) {
         return Err(unlike(text, 0));

@@ -8,7 +8,7 @@ ghost use Rattle.segment_lang.specs.Reading.{kind_of_token, number};
 ghost use Rattle.segment_lang.specs.{Lexing.Bare, Seen.bytes_said, Seen.token_of, Tokens.next_token};
 ghost use Rattle.segment_dump.specs.Builders.{ReadsElement, ReadsPair};
 ghost use Rattle.segment_dump.specs.Lines.{ReadsEnd, ReadsLine, ReadsThis, ReadsToken, any_token, bare_token};
-ghost use Rattle.segment_dump.specs.Lines.{quoted_token};
+ghost use Rattle.segment_dump.specs.Lines.{BeginsWithNumber, quoted_token};
 ghost use Rattle.segment_dump.specs.Lines.{seen_bytes, seen_token, value_token};
 ghost use Rattle.segment_dump.specs.Reads.{ended};
 
@@ -198,7 +198,8 @@ impl<'a> LineTokens<'a> {
 
     /// Returns the next word, a number.
     pub fn next_number(&mut self) -> Result<u64, SyntaxError>
-        ensures { ReadsToken number self.old self.new result }
+        ensures token { ReadsToken number self.old self.new result }
+        ensures exact { IfOk result (λ n. BeginsWithNumber n self.old self.new) }
     {
         let misfit = self.misfit(DumpFault::BadCount);
         number_of(self.next_bare()?).ok_or(misfit)

@@ -13,7 +13,8 @@ use Rattle.segment_dump.proofs.Common.{class_of, name_of, perform, effect, step,
 use Rattle.segment_dump.proofs.Common.{AllByRecursion-front, EndBy, HasExactRoom, Head, HasBuiltItems, IsFilling, Site}
 use Rattle.segment_dump.proofs.Common.{all_extents, total, DumpItem, content_of, item_of_object, block_room, le-leb}
 use Rattle.segment_dump.proofs.{Common.lt-leb, Common.lt-ltb, building.MachineSteps.put-last}
-use Rattle.segment_dump.proofs.{building.MachineSteps.writes}
+use Rattle.segment_dump.proofs.{building.MachineSteps.writes, texts.AllElements.AllByRecursion-append}
+use Rattle.segment_dump.specs.Building.{AreExact, HasExactCapacity}
 use Rattle.block_tags.specs.declared.tile.Role.TheVariants.{Object as ObjectRole}
 use Rattle.seg_types.specs.declared.refusals.Refusal.TheVariants.{Exists}
 use Rattle.segment_manager.specs.{Directory.with_object, Plan.with_entry, Plan.with_new_object, Plan.with_value}
@@ -149,6 +150,7 @@ module _ (d : Directory) (site : Site) (done : List DumpItem) (key : Key) (conte
           object = o;
           objects = objects;
           items = b.items;
+          exact = b.exact;
           class_is = refl;
           name_is = refl;
           handle_is = refl;
@@ -160,17 +162,19 @@ module _ (d : Directory) (site : Site) (done : List DumpItem) (key : Key) (conte
 
 -- ---- an object is done
 
--- an object that is full is one more of those built
+-- an object that is full, and has no spare slots, is one more of those built
 pub built : (d : Directory) (site : Site) (done : List DumpItem) (head : Head) (v : Value) (rest : ℕ)
-    → IsFilling d site done head v rest
+    → IsFilling d site done head v rest → HasExactCapacity v
     → HasBuiltItems d site (done ++ record { class = head.class; name = head.name; content = content_of v } ∷ []) rest
-built d site done head v rest f = record {
+built d site done head v rest f e = record {
   size_is = f.size_is;
   named = f.named;
   unique = f.unique;
   items = ap (map item_of_object) f.objects ∙ map-append item_of_object f.before (f.object ∷ [])
       ∙ (λ i. f.items i ++ record { class = f.class_is i; name = f.name_is i; content = content_of (f.value_is i) }
       ∷ []);
+  exact = subst AreExact (sym f.objects) (AllByRecursion-append (λ (o : Object). HasExactCapacity o.value) f.before
+      (f.object ∷ []) f.exact (subst HasExactCapacity (sym f.value_is) e, tt));
   room = f.room;
 }
 
@@ -185,6 +189,7 @@ empty-built size rest h = record {
   named = omega arith;
   unique = omega arith;
   items = refl;
+  exact = tt;
   room = record { end = 128; start = omega arith; below = tt; full = omega arith; room = omega arith };
 }
 
@@ -256,7 +261,7 @@ named-reserved size n rest i b r =
     → IsFronted size n rest (fronted size t) = λ t l room. record {
       table = t;
       is = refl;
-      built = record { size_is = refl; named = l; unique = omega arith; items = refl; room = room };
+      built = record { size_is = refl; named = l; unique = omega arith; items = refl; exact = tt; room = room };
     } in
     index-by (empty size) n rest i b.room r (fronted size) (asked.ReserveNamed n) (IsFronted size n rest) refl
     (λ z room. fronted-so no_backing (omega (arith, z)) room) (λ x h prefix fits. fronted-so (table_of n x)
@@ -271,11 +276,19 @@ pub unique-reserved : (size named n rest : ℕ) (t : BackingArray) → IsDirecto
 unique-reserved size named n rest t i b r =
     index-by (fronted size t) n rest i b.room r (λ u. record { size = size; objects = []; named = t; unique = u })
     (asked.ReserveUnique n) (λ e. HasBuiltItems e (record { named = named; unique = n; size = size }) [] rest) refl
-    (λ z room. record { size_is = refl; named = b.named; unique = omega (arith, z); items = refl; room = room })
+    (λ z room. record {
+      size_is = refl;
+      named = b.named;
+      unique = omega (arith, z);
+      items = refl;
+      exact = tt;
+      room = room;
+    })
     (λ x h prefix fits. record {
       size_is = refl;
       named = b.named;
       unique = omega arith;
       items = refl;
+      exact = tt;
       room = room-with (table_extents t) [] x size (room (8 * n) + rest) rest h prefix fits;
     }) (n == 0) refl

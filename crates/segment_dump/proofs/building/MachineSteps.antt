@@ -117,6 +117,7 @@ module _ (d : Directory) (site : Site) (done : List DumpItem) (head : Head) (v :
     object = renewed w;
     objects = changed-objects w;
     items = f.items;
+    exact = f.exact;
     class_is = f.class_is;
     name_is = f.name_is;
     handle_is = f.handle_is;

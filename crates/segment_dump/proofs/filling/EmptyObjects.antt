@@ -119,9 +119,9 @@ with-slots : {X Y : Type 0} (way : BackingArray → FillCourse X Y) (first : Val
     (need : ℕ) → ((t : BackingArray) → HasFirstElements (way t) all 0 (with_table first t) text need) → (w : Value)
     → HasTable first (length all) w → HasReservedSlots way all 0 w text need
 with-slots way first all text need part w (none e) =
-    record { table = no_backing; slots = omega (arith, e); part = part no_backing }
+    record { table = no_backing; slots = sym e; part = part no_backing }
 with-slots way first all text need part w (some x) =
-    let t = table_of (length all) x in record { table = t; slots = omega arith; part = part t }
+    let t = table_of (length all) x in record { table = t; slots = refl; part = part t }
 
 reserved-for : (c : ValueContent) (p : FillState) → c ≡ p.content → (first : Value) (each n more : ℕ)
     → IsStored first each → 0 < each → content_need c + p.more ≡ block_room (each * n) + (more + p.more)

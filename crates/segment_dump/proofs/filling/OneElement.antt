@@ -14,7 +14,7 @@ use Rattle.segment_dump.proofs.Common.{ValueContent, Map, Scalars, String, Strin
 use Rattle.segment_dump.proofs.Common.{count_of_content, all_needs, block_room, text_needs, element_line, pair_line}
 use Rattle.segment_dump.proofs.{Common.text_lines, building.BuildSteps.built}
 use Rattle.segment_manager.specs.State.{Transitions}
-use Rattle.segment_dump.specs.Builders.{IsFilled}
+use Rattle.segment_dump.specs.{Builders.IsFilled, Building.HasExactCapacity}
 use Rattle.segment_dump.specs.Filling.{map_course, strings_course, vector_course, FillCourse, HasFirstElements}
 use Rattle.segment_dump.specs.Filling.{HasReservedSlots, StandsBuilt, array_course, filled_item}
 use Rattle.segment_dump.proofs.filling.FillSteps.{AreLess, StepsTo, pushed, text-pushed, was-put, was-set}
@@ -301,6 +301,7 @@ record IsWhole (c : ValueContent) (v : Value) (left : List ℕ) (need : ℕ) : T
   value_is : content_of v ≡ c
   left_is : left ≡ []
   need_is : need ≡ 0
+  exact : HasExactCapacity v
 
 no-more : {X : Type 0} (all prefix back : List X) → all ≡ prefix ++ back → length all ≤ length prefix → back ≡ []
 no-more all prefix [] a l = refl
@@ -309,7 +310,8 @@ no-more all prefix (x ∷ back) a l = absurd (omega (arith, l, ap length a, leng
 module _ {X Y : Type 0} (way : FillCourse X Y) (all : List Y) (n : ℕ) (v : Value) (left : List ℕ) (need : ℕ)
     (c : List Y → ValueContent) (has : (prefix : List X) → content_of (way.value prefix []) ≡ c (way.items prefix))
     (none : way.need [] ≡ 0) (count : (prefix : List X) → length (way.items prefix) ≡ length prefix)
-    (l : length all ≤ n) (q : HasFirstElements way all n v left need) where
+    (l : length all ≤ n) (q : HasFirstElements way all n v left need)
+    (full : (prefix : List X) → all ≡ way.items prefix → HasExactCapacity (way.value prefix [])) where
   whole-prefix : IsWhole (c all) v left need
   whole-prefix =
       let end : q.back ≡ [] = no-more all (way.items q.prefix) q.back q.all_are (omega (
@@ -327,30 +329,35 @@ module _ {X Y : Type 0} (way : FillCourse X Y) (all : List Y) (n : ℕ) (v : Val
             ∙ ap c (sym same);
         left_is = q.text_is ∙ ap (flat_map way.line) end;
         need_is = q.need_is ∙ ap way.need end ∙ none;
+        exact = subst HasExactCapacity (sym (q.value_is ∙ ap (way.value q.prefix) end)) (full q.prefix same);
       }
 
 whole-by : (c : ValueContent) (n : ℕ) (v : Value) (left : List ℕ) (need : ℕ) → count_of_content c ≤ n
     → IsPartialValue c n v left need → IsWhole c v left need
 whole-by (Scalars k zs) n v left need l q = whole-prefix (array_course k) zs n v left need (Scalars k)
-    (λ prefix. ap (Scalars k) (append-nil prefix)) refl (λ prefix. refl) l q
+    (λ prefix. ap (Scalars k) (append-nil prefix)) refl (λ prefix. refl) l q (λ prefix e. tt)
 whole-by (Vector k zs) n v left need l q =
     whole-prefix (vector_course k q.table) zs n v left need (Vector k) (λ prefix. refl) refl (λ prefix. refl) l q.part
+    (λ prefix e. q.slots ∙ ap length e)
 whole-by (String bs) n v left need l q = absurd q
 whole-by (Map k w ps) n v left need l q = whole-prefix (map_course k w) ps n v left need (Map k w) (λ prefix. refl)
     (zero-mul (block_room (node_len (size_of k) (size_of w)))) (λ prefix. length-map prefix item_of) l q
+    (λ prefix e. tt)
 whole-by (Strings ts) n v left need l q = whole-prefix (strings_course q.table) ts n v left need Strings (λ
     prefix. refl)
     refl (λ prefix. length-map prefix bytes_in) l q.part
+    (λ prefix e. q.slots ∙ ap length e ∙ length-map prefix bytes_in)
 
 -- with all of its content it is built
 pub filled-so : {s : SegmentState} (p : FillState) (h : ℕ) (v : Value) (rest : ℕ) → content_of v ≡ p.content
-    → StandsFilling s p.site p.done (head_of p h) v rest → StandsBuilt s p.site (p.done ++ filled_item p ∷ []) rest
-filled-so {s} p h v rest e f = subst (λ (c : ValueContent).
+    → HasExactCapacity v → StandsFilling s p.site p.done (head_of p h) v rest
+    → StandsBuilt s p.site (p.done ++ filled_item p ∷ []) rest
+filled-so {s} p h v rest e x f = subst (λ (c : ValueContent).
     StandsBuilt s p.site (p.done ++ record { class = p.class; name = p.name; content = c } ∷ []) rest) e (record {
       directory = f.directory;
       stands = f.stands;
       mode = f.mode;
-      built = built f.directory p.site p.done (head_of p h) v rest f.filling;
+      built = built f.directory p.site p.done (head_of p h) v rest f.filling x;
     })
 
 -- an object with all elements is filled
@@ -361,6 +368,6 @@ filled s text p h n l f =
     let rest : f.need + p.more ≡ p.more = omega (arith, w.need_is) in
     record {
       stands = subst (StandsBuilt s p.site (p.done ++ filled_item p ∷ [])) rest
-          (filled-so p h f.value (f.need + p.more) w.value_is f.stands);
+          (filled-so p h f.value (f.need + p.more) w.value_is w.exact f.stands);
       text_is = f.text_is ∙ ap (λ l. l ++ p.after) w.left_is;
     }

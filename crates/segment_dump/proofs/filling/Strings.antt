@@ -50,7 +50,7 @@ piece-appended {E} {F} old new h tokens p bytes called result r e step ok = reco
 -- this many pieces are there
 pub record StringAt (s : SegmentState) (text : List ℕ) (p : FillState) (h n : ℕ) (bs : List ℕ) : Type 0 where
   pub table : BackingArray
-  pub slots : length bs ≤ table.capacity
+  pub slots : table.capacity ≡ length bs
   pub stands : StandsFilling s p.site p.done (head_of p h) (Bytes (prefix_bytes bs n) table) p.more
   pub left : PiecesLeft bs p.after n text
   pub inside : n ≤ pieces_in (length bs)
@@ -61,9 +61,9 @@ pub record InString (old now : SegmentState) (h : ℕ) (text rest : List ℕ) (r
       × (p.content ≡ String bs) × (len ≡ length bs) × IsByteList bs × StringAt now rest p h (suc counter) bs
 
 table-string : (bs : List ℕ) (w : Value) → HasTable (Bytes [] no_backing) (length bs) w
-    → (t : BackingArray) × (w ≡ Bytes [] t) × (length bs ≤ t.capacity)
-table-string bs w (none e) = (no_backing, refl, omega (arith, e))
-table-string bs w (some x) = (table_of (length bs) x, refl, omega arith)
+    → (t : BackingArray) × (w ≡ Bytes [] t) × (t.capacity ≡ length bs)
+table-string bs w (none e) = (no_backing, refl, sym e)
+table-string bs w (some x) = (table_of (length bs) x, refl, refl)
 
 -- the bytes of a begun string, and its lines
 record Begun (old : SegmentState) (text : List ℕ) (p : FillState) (h : ℕ) : Type 0 where
@@ -105,7 +105,7 @@ module _ (old mid : SegmentState) (h room : ℕ) (text rest tokens : List ℕ) (
     good : IsByteList bytes
     was : done_answer called ≡ Done
     table : BackingArray
-    slots : length bytes ≤ table.capacity
+    slots : table.capacity ≡ length bytes
     stands : StandsFilling mid p.site p.done (head_of p h) (Bytes [] table) p.more
     tokens_are : tokens ≡ piece_prefix bytes 0
     left : PiecesLeft bytes p.after 1 rest
@@ -266,7 +266,7 @@ string-end {now = now} {h} {rest = rest} {len} {counter} i l = record {
       at.stands in (
         refl,
         record {
-          stands = filled-so p h (Bytes bs at.table) p.more (sym q.1) stands;
+          stands = filled-so p h (Bytes bs at.table) p.more (sym q.1) at.slots stands;
           text_is = none-left bs p.after (suc counter) rest n at.left;
         },
       );

@@ -1,12 +1,12 @@
 -- Where a loaded segment lies in the region that it was made in.
-use Rattle.segment_dump.proofs.Common.{◌≡◌, ◌<◌, ◌^◌, ◌+◌, ◌-◌, ◌≤◌, ℕ, List, Option, Result, Ok, Err, refl, sym, ap}
-use Rattle.segment_dump.proofs.Common.{subst, ◌∙◌, arith, length, drop, take, ◌++◌, IfOk, length-append, length-drop}
-use Rattle.segment_dump.proofs.Common.{length-take, SegmentState, DenotesCurrent, Count, LoadRefused, CountsDump}
-use Rattle.segment_dump.proofs.Common.{IsExact, cause_in, live-size, StandsBuilt, DumpItem, Site, Directory}
+use Rattle.segment_dump.proofs.Common.{◌≡◌, ◌+◌, ◌-◌, ◌≤◌, ℕ, List, Option, Result, Ok, Err, refl, sym, ap}
+use Rattle.segment_dump.proofs.Common.{subst, ◌∙◌, arith, length, drop, ◌++◌, IfOk, length-append, length-drop}
+use Rattle.segment_dump.proofs.Common.{length-take, SegmentState, Count, LoadRefused, CountsDump}
+use Rattle.segment_dump.proofs.Common.{IsExact, cause_in, live-size, StandsBuilt, DumpItem, Site}
 use Rattle.best_fit.specs.Ends.{EndsAt}
 use Rattle.raw_region.specs.Memory.{SameSurroundings, WindowState, cut_at, part, whole}
 use Rattle.segment_dump.specs.{Items.portable, Loading.HasExactIndexes, Loading.LiesIn, Succeeding.IndexesOf}
-use Rattle.segment_dump.specs.{Succeeding.LiesOf}
+use Rattle.segment_dump.specs.{Loading.HasExactCapacities, Succeeding.CapacitiesOf, Succeeding.LiesOf}
 use Rattle.segment_dump.proofs.loading.Judgement.{portable-countable}
 
 long-whole : (c : WindowState) → length (whole c) ≡ length c.before + length c.bytes + length c.after
@@ -65,3 +65,14 @@ indexes-made text capacity base size room counted (Ok s) h x o = record {
       o.indexes b d n st l t (h.counts n (portable d) l (portable-countable b d st) t) (sym (x.exact b d n st l t));
 }
 indexes-made text capacity base size room counted (Err why) h x o = tt
+
+-- of a load that was made, the segment has no spare slots
+pub exact-made : (text : List ℕ) (capacity base : ℕ) (size : Option ℕ) (room : ℕ) (counted : Result Count ℕ)
+    (result : Result SegmentState LoadRefused) → CountsDump text counted
+    → IsExact text capacity base size room (cause_in result)
+    → CapacitiesOf text capacity base size room counted result → IfOk result (HasExactCapacities text)
+exact-made text capacity base size room counted (Ok s) h x o = record {
+  exact = λ b d n st l t.
+      o.exact b d n st l t (h.counts n (portable d) l (portable-countable b d st) t) (sym (x.exact b d n st l t));
+}
+exact-made text capacity base size room counted (Err why) h x o = tt

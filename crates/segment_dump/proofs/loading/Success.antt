@@ -28,6 +28,7 @@ use Rattle.segment_dump.proofs.building.BuildSteps.{unique-reserved}
 use Rattle.best_fit.specs.Ends.{EndsAt}
 use Rattle.raw_region.proofs.Laws.{SameSurroundings-trans}
 use Rattle.raw_region.specs.Memory.{SameSurroundings, WindowState, cut_at}
+use Rattle.segment_dump.specs.{Building.AreExact, Succeeding.CapacitiesOf, Succeeding.KeepsCapacities}
 use Rattle.segment_dump.specs.{Loading.HasIndexes, Succeeding.IndexesOf, Succeeding.KeepsIndexes, Succeeding.LiesOf}
 use Rattle.segment_dump.proofs.loading.Placed.{built-long, ends-in}
 use Rattle.segment_dump.proofs.building.WholeDump.{built-portable, cut-free, portable-sorted, text-behind}
@@ -142,6 +143,16 @@ trimmed-indexes s d (Some m) st = record { directory = d; stands = st; named_is 
 -- a segment that is cut after its last block keeps its indexes
 pub trims-keep : (s new : SegmentState) (size : Option ℕ) → Trims s new size → KeepsIndexes s (Ok new)
 trims-keep s new size h = record { keeps = λ d st. trimmed-indexes new d size (h.trims d st) }
+
+-- a segment that is cut after its last block gets no spare slots
+pub trims-exact : (s new : SegmentState) (size : Option ℕ) → Trims s new size → KeepsCapacities s (Ok new)
+trims-exact s new size h = record {
+  keeps = λ d st e. record {
+    directory = trimmed d size;
+    stands = h.trims d st;
+    exact = subst AreExact (sym (trimmed-same d size)) e;
+  };
+}
 
 module _ (s new : SegmentState) (text : List ℕ) (said : ℕ) (size : Option ℕ) where
   -- a text that is no dump of the segment
@@ -323,6 +334,15 @@ module _ (text : List ℕ) (capacity base : ℕ) (size : Option ℕ) (room : ℕ
           subst (λ m. IfOk result (HasIndexes m (length (portable d).unique))) of.named
           (subst (λ m. IfOk result (HasIndexes v.built.directory.named.capacity m)) of.unique
           (k.keeps v.built.directory v.built.stands));
+    }
+
+    -- the segment that was judged has no spare slots
+    pub good-exact : (result : Result SegmentState LoadRefused) → KeepsCapacities s1 result
+        → CapacitiesOf text capacity base size room counted result
+    good-exact result k = record {
+      exact = λ b d n s l t c f.
+          let v = building b d n s l t c f in
+          k.keeps v.built.directory v.built.stands v.built.built.exact;
     }
 
     -- the segment that was judged lies in the region

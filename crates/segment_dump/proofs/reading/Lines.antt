@@ -3,7 +3,8 @@ use Rattle.segment_dump.proofs.Common.{◌≡◌, ◌≢◌, ℕ, suc, ◌+◌, 
 use Rattle.segment_dump.proofs.Common.{take, drop, cond, not, nat_lt, Option, Some, None, Result, Ok, Err, refl, sym}
 use Rattle.segment_dump.proofs.Common.{ap, ◌∙◌, arith, append_assoc, position, length-append, take-append_seam}
 use Rattle.segment_dump.proofs.Common.{nat_tests, number, next_token, Token, Bare, Text, number_of, ReadsLine}
-use Rattle.segment_dump.proofs.Common.{ReadsThis}
+use Rattle.segment_dump.proofs.Common.{IfOk, ReadsThis, subst}
+use Rattle.segment_dump.specs.Lines.{BeginsWithNumber}
 use Rattle.segment_dump.proofs.Common.{ReadsToken, any_token, bare_token, HasNoEnd, ended, lt-ltb}
 use Rattle.std.specs.{List.position_or_len, Option.ok_or}
 use Rattle.std.proofs.Math.Seq.{drop-append_seam}
@@ -81,6 +82,19 @@ module _ {E : Type 0} (text rest : List ℕ) where
         let r = number-in bytes o w a x h q f g in
         (is ∙ ap (λ p. ok_or p e) r.0, r.1);
   }
+
+  number-of : (bytes : List ℕ) (o : Option ℕ) (e : E) → next_token text ≡ Some (Bare bytes, rest)
+      → o ≡ number_of bytes
+      → IfOk (ok_or o e) (λ n. BeginsWithNumber n text rest)
+  number-of bytes (Some n) e f q = record { token = Bare bytes; is = sym q; read = f }
+  number-of bytes None e f q = tt
+
+  -- the number that is read stands for the next word
+  pub exact-number : (bytes : List ℕ) (o : Option ℕ) (e : E) (result : Result ℕ E)
+      → next_token text ≡ Some (Bare bytes, rest) → o ≡ number_of bytes → result ≡ ok_or o e
+      → IfOk result (λ n. BeginsWithNumber n text rest)
+  exact-number bytes o e result f q is =
+      subst (λ r. IfOk r (λ n. BeginsWithNumber n text rest)) (sym is) (number-of bytes o e f q)
 
   -- ---- this word
 

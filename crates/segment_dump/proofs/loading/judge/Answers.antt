@@ -1,4 +1,4 @@
-use Rattle.segment_dump.proofs.loading.Success.{judged-other, judged-unlike, trims-keep}
+use Rattle.segment_dump.proofs.loading.Success.{judged-other, judged-unlike, trims-exact, trims-keep}
 use Rattle.segment_dump.proofs.loading.judge.Goals as goal
 
 pub returns-in-Err-clause-success : goal.returns-in-Err-clause-success
@@ -14,3 +14,7 @@ returns-else-has_size-clause-success c =
 pub returns-then-has_size-clause-indexes : goal.returns-then-has_size-clause-indexes
 returns-then-has_size-clause-indexes c =
     trims-keep c.args.segment c.trim.new.segment c.args.size c.trim.ensures.changes
+
+pub returns-then-has_size-clause-capacities : goal.returns-then-has_size-clause-capacities
+returns-then-has_size-clause-capacities c =
+    trims-exact c.args.segment c.trim.new.segment c.args.size c.trim.ensures.changes

@@ -1,5 +1,5 @@
 use Rattle.std.specs.Prelude.{IfOk}
-use Rattle.segment_dump.specs.Loading.{HasExactIndexes, LetsGoOfDumps, LiesIn}
+use Rattle.segment_dump.specs.Loading.{HasExactCapacities, HasExactIndexes, LetsGoOfDumps, LiesIn}
 use Rattle.segment_dump.proofs.Common.{length, subst, MatchResult, IsExact, IsLoaded, IsNotLoaded, cause_in, Succeeds}
 use Rattle.std.specs.Prelude.{IfSome}
 use Rattle.segment_dump.specs.Loading.{IsLacking}
@@ -36,3 +36,7 @@ returns-clause-indexes c = subst (λ t. IfOk c.load_lines.result (HasExactIndexe
 pub returns-clause-region : goal.returns-clause-region
 returns-clause-region c = subst (λ t. LetsGoOfDumps t c.load_lines.result) c.without_notes.ensures
     c.load_lines.ensures.region
+
+pub returns-clause-capacities : goal.returns-clause-capacities
+returns-clause-capacities c = subst (λ t. IfOk c.load_lines.result (HasExactCapacities t)) c.without_notes.ensures
+    c.load_lines.ensures.capacities

@@ -1,4 +1,4 @@
-use Rattle.segment_dump.proofs.loading.Placed.{indexes-made, lies-made}
+use Rattle.segment_dump.proofs.loading.Placed.{exact-made, indexes-made, lies-made}
 use Rattle.segment_dump.proofs.loading.load_lines.Goals as goal
 use Rattle.segment_dump.proofs.{Common.length, Common.cause_in, loading.Success.succeeds-lacking}
 use Rattle.segment_dump.proofs.{loading.Success.succeeds-made}
@@ -59,3 +59,9 @@ returns-clause-indexes c =
     indexes-made c.args.text.now (length c.args.region) c.args.base c.args.size (length c.args.room.now)
     c.count_dump-counted.result c.make.result c.count_dump-counted.ensures.count (returns-clause-exact c)
     c.make.ensures.indexes
+
+pub returns-clause-capacities : goal.returns-clause-capacities
+returns-clause-capacities c =
+    exact-made c.args.text.now (length c.args.region) c.args.base c.args.size (length c.args.room.now)
+    c.count_dump-counted.result c.make.result c.count_dump-counted.ensures.count (returns-clause-exact c)
+    c.make.ensures.capacities

@@ -1,5 +1,5 @@
 use Rattle.segment_dump.proofs.loading.Dropped.{begins, on-err}
-use Rattle.segment_dump.proofs.loading.Success.{good-indexed, good-placed}
+use Rattle.segment_dump.proofs.loading.Success.{good-exact, good-indexed, good-placed}
 use Rattle.segment_dump.proofs.loading.make.Goals as goal
 use Rattle.segment_dump.proofs.{Common.length, Common.refl, loading.Judgement.back-some, loading.Judgement.judged}
 use Rattle.segment_dump.proofs.{loading.Judgement.unlacking, loading.Judgement.wrong-why}
@@ -90,14 +90,25 @@ returns-clause-indexes c =
     c.asked_size-asked.ensures.value c.create.ensures c.in-Ok-create.is c.make_objects.ensures.objects _
     c.judge.ensures.indexes
 
+pub returns-clause-capacities : goal.returns-clause-capacities
+returns-clause-capacities c =
+    good-exact c.args.text.now (length c.args.region) c.args.base c.args.size (length c.args.room.now)
+    c.args.counted _ _ c.args.region c.new-lines.result c.read_prefix.new.lines c.in-Ok.prefix
+    c.asked_size-asked.result c.declared_size.result c.in-Ok-create.segment c.make_objects.new.segment
+    c.make_objects.result
+    c.read_prefix.result c.create.result c.new-lines.ensures c.read_prefix.ensures.reading c.in-Ok.is
+    c.declared_size.ensures
+    c.asked_size-asked.ensures.value c.create.ensures c.in-Ok-create.is c.make_objects.ensures.objects _
+    c.judge.ensures.capacities
+
 -- ---- whether the region comes back
 
 pub returns-in-Err-make_objects-clause-region : goal.returns-in-Err-make_objects-clause-region
 returns-in-Err-make_objects-clause-region c = λ gone.
-    begins c.args.text.now c.new-lines.result c.read_prefix.result c.in-Ok.prefix c.read_prefix.ensures.version
+    begins c.args.text.now c.new-lines.result c.read_prefix.result c.in-Ok.prefix c.read_prefix.ensures.prefix
     c.in-Ok.is c.new-lines.ensures
 
 pub returns-clause-region : goal.returns-clause-region
 returns-clause-region c = on-err c.judge.result (λ refused gone.
-    begins c.args.text.now c.new-lines.result c.read_prefix.result c.in-Ok.prefix c.read_prefix.ensures.version
+    begins c.args.text.now c.new-lines.result c.read_prefix.result c.in-Ok.prefix c.read_prefix.ensures.prefix
     c.in-Ok.is c.new-lines.ensures)

@@ -1,4 +1,4 @@
-use Rattle.segment_dump.proofs.loading.Dropped.{on-ok}
+use Rattle.segment_dump.proofs.loading.Dropped.{on-end}
 use Rattle.segment_dump.proofs.reading.PrefixSteps.{version-no_dump, version-no_one, version-none, version-some}
 use Rattle.segment_dump.proofs.loading.read_version.Goals as goal
 
@@ -17,14 +17,16 @@ returns-clause-reading c = version-some c.in_ok-tokens.ensures.lead c.in_ok-expe
     c.in_ok-expect-2.ensures.token c.finish.ensures
 
 pub returns-clause-version : goal.returns-clause-version
-returns-clause-version c = on-ok c.finish.result (record {
+returns-clause-version c = on-end c.finish.result c.finish.ensures.exact (λ end. record {
   line = c.in_ok-tokens.ensures.exact.0;
-  rest = c.read_lead.new.lines;
   is = c.in_ok-tokens.ensures.exact.1;
-  behind_segment = c.in_ok-tokens.tokens;
-  first = c.in_ok-tokens.ensures.exact.2;
-  behind_dump = c.expect.new.self;
-  second = c.in_ok-expect.ensures.exact;
-  behind_one = c.expect-2.new.self;
-  third = c.in_ok-expect-2.ensures.exact;
+  has = (
+    c.in_ok-tokens.tokens,
+    c.in_ok-tokens.ensures.exact.2,
+    (
+      c.expect.new.self,
+      c.in_ok-expect.ensures.exact,
+      (c.expect-2.new.self, c.in_ok-expect-2.ensures.exact, end),
+    ),
+  );
 })

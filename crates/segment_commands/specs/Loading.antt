@@ -6,6 +6,7 @@ use Rattle.raw_region.specs.Refusals.{out_of_memory_of}
 use Rattle.block_tags.specs.Format.{is_legal_size}
 use Rattle.segment_manager.specs.Directory.{Directory}
 use Rattle.segment_manager.specs.State.{SegmentState, DenotesCurrent}
+use Rattle.segment_scripts.specs.RunOutcome.{MeetsEndOnce}
 use Rattle.segment_dump.specs.Counting.{AreCountable, BeginsWithSize}
 use Rattle.segment_dump.specs.Items.{Items, portable}
 use Rattle.segment_dump.specs.Loading.{IsLoaded, IsLoadCause, asked_of}
@@ -20,7 +21,8 @@ use Rattle.segment_cli.specs.declared.faults.SessionFault.TheVariants.{Image as 
 use Rattle.segment_cli.specs.declared.faults.SessionFault.TheVariants.{OutOfMemory, ReadFault, WriteFault}
 use Rattle.segment_cli.specs.declared.faults.SessionFault.TheVariants.{ScriptTooLong}
 use Rattle.segment_commands.specs.declared.command_faults.CommandFault.{CommandFault}
-use Rattle.segment_commands.specs.declared.command_faults.CommandFault.TheVariants.{BadDump, NoSpace, Exists, Session}
+use Rattle.segment_commands.specs.declared.command_faults.CommandFault.TheVariants.{BadDump, NoSpace, Exists, InUse}
+use Rattle.segment_commands.specs.declared.command_faults.CommandFault.TheVariants.{Session}
 use Rattle.segment_commands.specs.Faults.{IsNoMemory, region_refused}
 use Rattle.segment_disk.specs.declared.presence.Presence.TheVariants.{There}
 use Rattle.segment_disk.specs.Events.{CreateMode, New, Replacement, Event, Looked, After}
@@ -158,6 +160,14 @@ module _ (size : Option ℕ) (script script' : ReaderHistory) (result : Result S
   -- an illegal size, and nothing is read; a dump that was not read whole; or one that was
   abbrev pub LoadsDump : Type 0
   LoadsDump = LoadsDumpBadSize ⊎ (LoadsDumpUnread ⊎ LoadsDumpRead)
+
+-- ---- the end that the reader of a dump met
+
+-- the reader of the dump met its end in this call, once, if the dump has ended; a load reads nothing if no segment has
+-- the size, if something is at the path, or if another has the lock
+abbrev pub MeetsDumpEnd : Option ℕ → Result (Unit {0}) CommandFault → ReaderHistory → ReaderHistory → Type 0
+MeetsDumpEnd size result old new =
+    IsSizeFit size → result ≢ Err Exists → result ≢ Err InUse → MeetsEndOnce old new
 
 -- ---- `load`
 

@@ -13,6 +13,7 @@ use Rattle.segment_scripts.specs.declared.ends.End.TheVariants.{Complete, Refuse
 use Rattle.segment_scripts.specs.declared.ends.Until.{Until}
 use Rattle.segment_scripts.specs.Lines.{script_limit}
 use Rattle.segment_scripts.specs.Run.{lines, run}
+use Rattle.segment_scripts.specs.RunOutcome.{MeetsEndOnce}
 use Rattle.segment_scripts.specs.Segments.{MachineState, IsMachineAt, answer_line, refuses_line}
 use Rattle.segment_scripts.specs.Stopping.{IsStoppedAt, goes_on, stops_at}
 use Rattle.grow_shrink.specs.LargerRegion.{region_len}
@@ -24,7 +25,7 @@ use Rattle.segment_commands.specs.declared.running.RunRequest.{RunRequest}
 use Rattle.segment_commands.specs.declared.command_faults.CommandFault.{CommandFault}
 use Rattle.segment_commands.specs.declared.command_faults.CommandFault.TheVariants.{Stopped, Exists, Session}
 use Rattle.segment_cli.specs.Serving.{ServesOk, ServesErr}
-use Rattle.segment_cli.specs.Session.{LeavesZeros, RunsSession, SessionIo, StartsFrom}
+use Rattle.segment_cli.specs.Session.{LeavesZeros, MeetsScriptEnd, RunsSession, SessionIo, StartsFrom}
 use Rattle.segment_disk.specs.Events.{CreateMode, New, Replacement, create_mode_of}
 use Rattle.segment_disk.specs.declared.presence.Presence.TheVariants.{Absent, There}
 use Rattle.segment_disk.specs.Events.{Event, Looked, After}
@@ -215,6 +216,17 @@ pub record IsAnswerOf (runs : Result End SessionFault → Type 0) (result : Resu
   pub answer : Result End SessionFault
   pub ran : runs answer
   pub result_is : result ≡ as_program answer
+
+-- ---- the end that the reader of a script met
+
+-- the reader of the script met its end in this call, once, if the script has ended; a run that is refused before its
+-- script reads nothing, and meets no end
+abbrev pub MeetsRunEnd : Result (Unit {0}) CommandFault → ReaderHistory → ReaderHistory → Type 0
+MeetsRunEnd (Ok u) old new = MeetsEndOnce old new
+MeetsRunEnd (Err Stopped) old new = MeetsEndOnce old new
+MeetsRunEnd (Err (Session ReadFault)) old new = (new.ends ≡ old.ends) ⊎ MeetsEndOnce old new
+MeetsRunEnd (Err (Session fault)) old new = MeetsScriptEnd {A = Unit {0}} (Err fault) old new
+MeetsRunEnd (Err fault) old new = new ≡ old
 
 -- ---- the segment of a file
 

@@ -2,6 +2,7 @@
 ghost use Rattle.std.specs.Prelude.{◌^◌, ◌-◌, ◌<◌, Bool};
 ghost use Rattle.raw_region.specs.Device.{read_delta, write_delta};
 ghost use Rattle.segment_disk.specs.Events.{IsFlushed};
+ghost use Rattle.segment_cli.specs.Session.{MeetsScriptEnd};
 ghost use Rattle.segment_commands.specs.Running.{RunsScript};
 
 use raw_region::Source;
@@ -39,8 +40,10 @@ pub(crate) fn run_script<S: Source, O: LineOutput>(
 ) -> Result<End, SessionFault>
     requires script { (S.history script.old).failures < 2 ^ 64 - 1 }
     requires out { (O.history out.old).failures < 2 ^ 64 - 1 }
-    ensures { RunsScript until segment.old segment.new (read_delta (S.history script.old) (S.history script.new))
+    ensures service { RunsScript until segment.old segment.new
+        (read_delta (S.history script.old) (S.history script.new))
         (write_delta (O.history out.old) (O.history out.new)) (IsFlushed O.history O.flushes out.new) result }
+    ensures script_end { MeetsScriptEnd result (S.history script.old) (S.history script.new) }
 {
     let served = serve(segment, script, out, &mut Flushing, until);
     let flushed = out.flush();

@@ -1,7 +1,9 @@
 //! The command that runs a script on the segment in a file, and commits what the script changed.
 ghost use Rattle.std.specs.Prelude.{◌-◌, ◌<◌, ◌^◌};
 ghost use Rattle.segment_disk.specs.Events.{IsFlushed};
+ghost use Rattle.segment_cli.specs.Session.{MeetsScriptEnd};
 ghost use Rattle.segment_commands.specs.Committing.{CommitsInMode, CommitsOnFile, CommitsOpened};
+ghost use Rattle.segment_commands.specs.Running.{MeetsRunEnd};
 
 use crate::answering::run_script;
 use crate::command_faults::CommandFault;
@@ -29,8 +31,9 @@ fn commit_opened<D: Disk, S: Source, O: LineOutput>(
 ) -> Result<End, SessionFault>
     requires script { (S.history script.old).failures < 2 ^ 64 - 1 }
     requires out { (O.history out.old).failures < 2 ^ 64 - 1 }
-    ensures { CommitsOpened D.step D.log_step disk.old disk.new request.now (S.history script.old)
+    ensures effect { CommitsOpened D.step D.log_step disk.old disk.new request.now (S.history script.old)
         (S.history script.new) O.history (IsFlushed O.history O.flushes out.new) out.old out.new result }
+    ensures script_end { MeetsScriptEnd result (S.history script.old) (S.history script.new) }
 {
     let path = request.path;
     let mut segment = open_segment(alloc, disk, path, AcceptedVersions::Current, Mode::Write, 0)?;
@@ -52,8 +55,9 @@ fn commit_on_file<D: Disk, S: Source, O: LineOutput>(
 ) -> Result<(), CommandFault>
     requires script { (S.history script.old).failures < 2 ^ 64 - 1 }
     requires out { (O.history out.old).failures < 2 ^ 64 - 1 }
-    ensures { CommitsOnFile D.step D.log_step disk.old disk.new request.now (S.history script.old)
+    ensures effect { CommitsOnFile D.step D.log_step disk.old disk.new request.now (S.history script.old)
         (S.history script.new) O.history (IsFlushed O.history O.flushes out.new) out.old out.new result }
+    ensures script_end { MeetsRunEnd result (S.history script.old) (S.history script.new) }
 {
     if !can_be_read(script) {
         return Err(CommandFault::Session(SessionFault::ReadFault));
@@ -83,9 +87,10 @@ pub fn run_and_commit<D: Disk, S: Source, O: LineOutput>(
 ) -> Result<(), CommandFault>
     requires script { (S.history script.old).failures < 2 ^ 64 - 1 }
     requires out { (O.history out.old).failures < 2 ^ 64 - 1 }
-    ensures { CommitsInMode D.step D.log_step disk.old disk.new request.now (S.history script.old)
+    ensures effect { CommitsInMode D.step D.log_step disk.old disk.new request.now (S.history script.old)
         (S.history script.new) O.history (IsFlushed O.history O.flushes out.new) out.old out.new result
         request.now.mode request.now.size }
+    ensures script_end { MeetsRunEnd result (S.history script.old) (S.history script.new) }
 {
     match (request.mode, request.size) {
         (ModeName::OpenOnly, _) => commit_on_file(alloc, disk, request, script, out),

@@ -1,5 +1,6 @@
 //! The command that tells which lines of a script are no commands.
 ghost use Rattle.std.specs.Prelude.{◌≡◌, ◌^◌, ◌-◌, ◌<◌};
+ghost use Rattle.segment_scripts.specs.RunOutcome.{MeetsEndOnce};
 ghost use Rattle.segment_commands.specs.Linting.{Lints, answer_of};
 
 use crate::answering::Flushing;
@@ -23,7 +24,9 @@ pub fn lint<S: Source, O: LineOutput>(
 ) -> Result<(), CommandFault>
     requires script { (S.history script.old).failures < 2 ^ 64 - 1 }
     requires out { (O.history out.old).failures < 2 ^ 64 - 1 }
-    ensures { Lints rows.now (S.history script.old) (S.history script.new) O.history O.flushes out.old out.new result }
+    ensures effect { Lints rows.now (S.history script.old) (S.history script.new) O.history O.flushes out.old out.new
+        result }
+    ensures script_end { MeetsEndOnce (S.history script.old) (S.history script.new) }
 {
     let mut machine = Lint::new(rows);
     let answered = run_followed(&mut machine, script, out, &mut Flushing);

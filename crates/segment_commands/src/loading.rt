@@ -2,9 +2,10 @@
 ghost use Rattle.std.specs.Prelude.{◌≡◌, ◌^◌, ◌-◌, ◌<◌, ℕ, true, false, Some};
 ghost use Rattle.block_tags.specs.Format.{is_legal_size};
 ghost use Rattle.segment_disk.specs.Events.{Replacement};
+ghost use Rattle.segment_scripts.specs.RunOutcome.{MeetsEndOnce};
 ghost use Rattle.segment_commands.specs.Loading.{IsFitting, IsMadeIfGiven, IsRequestedOrWritten, IsSizeFit};
 ghost use Rattle.segment_commands.specs.Loading.{IsWantedSize, LoadsDump, LoadsInto, LoadsSegment, LoadsWhatFits};
-ghost use Rattle.segment_commands.specs.Loading.{NeedsRoom, RunsLoad, RunsLoadOver, load_fault};
+ghost use Rattle.segment_commands.specs.Loading.{MeetsDumpEnd, NeedsRoom, RunsLoad, RunsLoadOver, load_fault};
 
 use crate::command_faults::{CommandFault, written};
 use crate::creating::write_made;
@@ -86,7 +87,8 @@ fn load_dump<S: Source>(
     script: &mut S,
 ) -> Result<Segment, CommandFault>
     requires { (S.history script.old).failures < 2 ^ 64 - 1 }
-    ensures { LoadsDump size (S.history script.old) (S.history script.new) result }
+    ensures effect { LoadsDump size (S.history script.old) (S.history script.new) result }
+    ensures script_end { IsSizeFit size → MeetsEndOnce (S.history script.old) (S.history script.new) }
 {
     if is_unfit(size) {
         return Err(CommandFault::Session(SessionFault::BadSize));
@@ -117,6 +119,7 @@ pub fn load<D: Disk, S: Source>(
         result }
     ensures success { LoadsWhatFits D.step disk.old disk.new path.now size (S.history script.old)
         (S.history script.new) result }
+    ensures script_end { MeetsDumpEnd size result (S.history script.old) (S.history script.new) }
 {
     if disk.path_status(path) == Presence::There {
         return Err(CommandFault::Exists);
@@ -135,8 +138,9 @@ fn load_held<D: Disk, S: Source>(
     script: &mut S,
 ) -> Result<(), CommandFault>
     requires { (S.history script.old).failures < 2 ^ 64 - 1 }
-    ensures { LoadsInto D.step disk.old disk.new path.now size (S.history script.old) (S.history script.new) result
-        Replacement }
+    ensures effect { LoadsInto D.step disk.old disk.new path.now size (S.history script.old) (S.history script.new)
+        result Replacement }
+    ensures script_end { IsSizeFit size → MeetsEndOnce (S.history script.old) (S.history script.new) }
 {
     let segment = load_dump(alloc, size, script)?;
     written(write_image(disk, path, SaveMode::Replacing, hold, &segment))
@@ -157,7 +161,9 @@ pub fn load_over<D: Disk, S: Source>(
     script: &mut S,
 ) -> Result<(), CommandFault>
     requires { (S.history script.old).failures < 2 ^ 64 - 1 }
-    ensures { RunsLoadOver D.step disk.old disk.new path.now size (S.history script.old) (S.history script.new) result }
+    ensures effect { RunsLoadOver D.step disk.old disk.new path.now size (S.history script.old) (S.history script.new)
+        result }
+    ensures script_end { MeetsDumpEnd size result (S.history script.old) (S.history script.new) }
 {
     if disk.path_status(path) != Presence::There {
         return load(alloc, disk, path, size, script);

@@ -1,6 +1,7 @@
 //! A text that is read whole.
 ghost use Rattle.std.specs.Prelude.{◌^◌, ◌-◌, ◌<◌, MatchResult};
 ghost use Rattle.raw_region.specs.Device.{read_delta};
+ghost use Rattle.segment_scripts.specs.RunOutcome.{MeetsEndOnce};
 ghost use Rattle.segment_commands.specs.Loading.{IsReadWhole, IsWhyUnread};
 
 use raw_region::{Source, append};
@@ -20,9 +21,10 @@ const LONGEST: u64 = 17179869184;
 /// `ReadFault` if it failed, `ScriptTooLong` if it gives more than a dump may have, and `OutOfMemory`.
 pub(crate) fn read_text<S: Source>(alloc: Global, reader: &mut S) -> Result<Vec<u8>, SessionFault>
     requires { (S.history reader.old).failures < 2 ^ 64 - 1 }
-    ensures { MatchResult result
+    ensures text { MatchResult result
         (λ text. IsReadWhole (read_delta (S.history reader.old) (S.history reader.new)) text.items)
         (IsWhyUnread (read_delta (S.history reader.old) (S.history reader.new))) }
+    ensures script_end { MeetsEndOnce (S.history reader.old) (S.history reader.new) }
 {
     let mut text = Vec::new(alloc);
     let mut piece = [0; PIECE];

@@ -4,7 +4,8 @@ ghost use Rattle.segment_scripts.specs.declared.ends.End.TheVariants.{Complete};
 ghost use Rattle.segment_manager.specs.declared.modes.Mode.TheVariants.{Write};
 ghost use Rattle.segment_disk.specs.Events.{IsFlushed};
 ghost use Rattle.segment_commands.specs.{Modes.RunsInMode, Running.as_program, Running.as_saved};
-ghost use Rattle.segment_commands.specs.Running.{MakesRun, RunsFile, RunsHeld, RunsOpened};
+ghost use Rattle.segment_cli.specs.Session.{MeetsScriptEnd};
+ghost use Rattle.segment_commands.specs.Running.{MakesRun, MeetsRunEnd, RunsFile, RunsHeld, RunsOpened};
 
 use crate::answering::run_script;
 use crate::command_faults::CommandFault;
@@ -57,8 +58,9 @@ pub fn run<D: Disk, S: Source, O: LineOutput>(
 ) -> Result<(), CommandFault>
     requires script { (S.history script.old).failures < 2 ^ 64 - 1 }
     requires out { (O.history out.old).failures < 2 ^ 64 - 1 }
-    ensures { RunsInMode D.step disk.old disk.new request.now (S.history script.old) (S.history script.new)
+    ensures effect { RunsInMode D.step disk.old disk.new request.now (S.history script.old) (S.history script.new)
         O.history (IsFlushed O.history O.flushes out.new) out.old out.new result request.now.mode request.now.size }
+    ensures script_end { MeetsRunEnd result (S.history script.old) (S.history script.new) }
 {
     let mode = match (request.mode, request.size) {
         (ModeName::CreateOnly, Some(size)) => {
@@ -89,6 +91,7 @@ pub(crate) fn can_be_read<S: Source>(script: &mut S) -> bool
     requires { (S.history script.old).failures < 2 ^ 64 - 1 }
     ensures on_true { result ≡ true → S.history script.new ≡ S.history script.old }
     ensures on_false { result ≡ false → (S.history script.new).failures ≡ (S.history script.old).failures + 1 }
+    ensures ends { (S.history script.new).ends ≡ (S.history script.old).ends }
 {
     script.read(&mut []).is_ok()
 }
@@ -125,8 +128,9 @@ fn run_opened<D: Disk, S: Source, O: LineOutput>(
 ) -> Result<End, SessionFault>
     requires script { (S.history script.old).failures < 2 ^ 64 - 1 }
     requires out { (O.history out.old).failures < 2 ^ 64 - 1 }
-    ensures { RunsOpened D.step disk.old disk.new request.now Write (S.history script.old) (S.history script.new)
+    ensures effect { RunsOpened D.step disk.old disk.new request.now Write (S.history script.old) (S.history script.new)
         O.history (IsFlushed O.history O.flushes out.new) out.old out.new result }
+    ensures script_end { MeetsScriptEnd result (S.history script.old) (S.history script.new) }
 {
     let path = request.path;
     let mut segment = open_segment(alloc, disk, path, AcceptedVersions::Current, Mode::Write, 0)?;
@@ -150,8 +154,9 @@ fn run_free<D: Disk, S: Source, O: LineOutput>(
     requires mode { mode ≢ Write }
     requires script { (S.history script.old).failures < 2 ^ 64 - 1 }
     requires out { (O.history out.old).failures < 2 ^ 64 - 1 }
-    ensures { RunsOpened D.step disk.old disk.new request.now mode (S.history script.old) (S.history script.new)
+    ensures effect { RunsOpened D.step disk.old disk.new request.now mode (S.history script.old) (S.history script.new)
         O.history (IsFlushed O.history O.flushes out.new) out.old out.new result }
+    ensures script_end { MeetsScriptEnd result (S.history script.old) (S.history script.new) }
 {
     let current = AcceptedVersions::Current;
     let mut segment = open_segment(alloc, disk, request.path, current, mode, 0)?;
@@ -168,8 +173,9 @@ fn run_held<D: Disk, S: Source, O: LineOutput>(
 ) -> Result<(), CommandFault>
     requires script { (S.history script.old).failures < 2 ^ 64 - 1 }
     requires out { (O.history out.old).failures < 2 ^ 64 - 1 }
-    ensures { RunsHeld D.step disk.old disk.new request.now (S.history script.old) (S.history script.new)
+    ensures effect { RunsHeld D.step disk.old disk.new request.now (S.history script.old) (S.history script.new)
         O.history (IsFlushed O.history O.flushes out.new) out.old out.new result }
+    ensures script_end { MeetsRunEnd result (S.history script.old) (S.history script.new) }
 {
     let mut hold = disk.lock(request.path)?;
     let answer = run_opened(alloc, disk, request, &mut hold, script, out);
@@ -189,8 +195,9 @@ fn run_on_file<D: Disk, S: Source, O: LineOutput>(
 ) -> Result<(), CommandFault>
     requires script { (S.history script.old).failures < 2 ^ 64 - 1 }
     requires out { (O.history out.old).failures < 2 ^ 64 - 1 }
-    ensures { RunsFile D.step disk.old disk.new request.now (S.history script.old) (S.history script.new)
+    ensures effect { RunsFile D.step disk.old disk.new request.now (S.history script.old) (S.history script.new)
         O.history (IsFlushed O.history O.flushes out.new) out.old out.new result mode }
+    ensures script_end { MeetsRunEnd result (S.history script.old) (S.history script.new) }
 {
     if !can_be_read(script) {
         return Err(CommandFault::Session(SessionFault::ReadFault));
@@ -213,8 +220,9 @@ pub(crate) fn run_made<D: Disk, S: Source, O: LineOutput>(
 ) -> Result<End, SessionFault>
     requires script { (S.history script.old).failures < 2 ^ 64 - 1 }
     requires out { (O.history out.old).failures < 2 ^ 64 - 1 }
-    ensures { MakesRun D.step disk.old disk.new request.now size (S.history script.old) (S.history script.new)
+    ensures effect { MakesRun D.step disk.old disk.new request.now size (S.history script.old) (S.history script.new)
         O.history (IsFlushed O.history O.flushes out.new) out.old out.new result }
+    ensures script_end { MeetsScriptEnd result (S.history script.old) (S.history script.new) }
 {
     let mut segment = new_segment(alloc, size)?;
     let ended = run_script(&mut segment, request.until, script, out);

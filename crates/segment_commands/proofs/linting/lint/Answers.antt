@@ -4,8 +4,8 @@ use Rattle.segment_commands.specs.Linting.{answer_of}
 use Rattle.segment_commands.proofs.linting.Ends.{linted}
 use Rattle.segment_commands.proofs.linting.lint.Goals as goal
 
-pub returns : goal.returns
-returns g c =
+pub returns-clause-effect : goal.returns-clause-effect
+returns-clause-effect g c =
     let Script = g.S.Source in
     let Answers = g.O.Sink in
     let end = c.run_followed-answered.new.machine in

@@ -10,7 +10,7 @@ returns-clause-effect g c = rw c.written.ensures (inr (record {
   is = search rules;
   looked = c.path_status.new.self;
   asked = c.path_status.ensures;
-  goes = inr (segment_written _ _ _ _ _ _ c.in_ok-segment.segment c.in_ok-segment.ensures c.write_made.result
+  goes = inr (segment_written _ _ _ _ _ _ c.in_ok-segment.segment c.in_ok-segment.ensures.effect c.write_made.result
       c.write_made.ensures);
 }))
 
@@ -21,7 +21,7 @@ returns-clause-success g c = rw c.written.ensures (record {
     is = search rules;
     looked = c.path_status.new.self;
     asked = c.path_status.ensures;
-    goes = segment_written _ _ _ _ _ _ c.in_ok-segment.segment c.in_ok-segment.ensures c.write_made.result
+    goes = segment_written _ _ _ _ _ _ c.in_ok-segment.segment c.in_ok-segment.ensures.effect c.write_made.result
         c.write_made.ensures;
   }));
 })
@@ -33,7 +33,7 @@ returns-in_err-segment-clause-success g c =
       loads = λ text r f. inr (inl (
         c.in_err-segment.field-0.0,
         unmade c.args.size (g.S.Source.history c.args.script.now) (g.S.Source.history c.load_dump.new.script)
-            c.in_err-segment.field-0.0 text c.in_err-segment.ensures r f,
+            c.in_err-segment.field-0.0 text c.in_err-segment.ensures.effect r f,
         refl,
       ));
     })

@@ -70,9 +70,9 @@ impl<'a> Lines<'a> {
         self.len.saturating_sub(self.rest.len())
     }
 
-    /// Tells whether nothing is left.
+    /// Returns true if nothing is left.
     pub fn is_empty(&self) -> bool
-        ensures { self.now ≡ [] → result ≡ true }
+        ensures { result ≡ true ↔ self.now ≡ [] }
     {
         self.rest.is_empty()
     }

@@ -2,7 +2,7 @@
 use anyhow::Result;
 use zaluxhoni::{Disk, FileError, Mode, OpenError, check, migrate, named, read};
 
-/// Finds that a file has an older format, writes it anew by the current one, and reads its number.
+/// Migrates a file of an older format to the current one, and reads its number.
 pub fn migrate_an_older_file(rt: &HostRuntime, disk: &mut impl Disk) -> Result<()> {
     if let Err(FileError::Open(OpenError::Image(verdict))) = check(rt.alloc(), disk, "older.seg") {
         println!(rt; "an older format: {verdict}")?;

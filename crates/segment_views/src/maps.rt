@@ -16,9 +16,6 @@ use segment_values::least;
 use std::marker::{Model, PhantomData};
 use std::ops::{Bound, RangeBounds};
 
-/// The longest spelling of a scalar, in bytes.
-const LONGEST: usize = 8;
-
 /// The most nodes that are listed at once.
 const MOST: usize = 32;
 
@@ -241,11 +238,11 @@ fn last_up_to<K: Scalar, V: Scalar>(map: &Map<'_, K, V>, end: Bound<K>) -> Optio
     }
 }
 
-/// Returns the least value of a scalar type.
+/// Returns the least value of a scalar type, whose spelling has 8 bytes at most.
 fn lowest<T: Scalar>() -> T
     ensures { T.whole result ≡ lowest_of T.kind }
 {
-    let mut bytes = [0; LONGEST];
+    let mut bytes = [0; 8];
     let spelling = &mut bytes[..T::SIZE as usize];
     least(T::kind()).write(spelling);
     match scalar_is_number::<T>(spelling) {

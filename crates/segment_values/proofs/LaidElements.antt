@@ -1,30 +1,30 @@
 -- The texts of an object's elements are the texts of its value, in each layout.
-use Rattle.std.proofs.Common.{◌≡◌, ℕ, zero, suc, ℤ, List, [], ◌∷◌, length, map, Option, Some}
-use Rattle.std.proofs.Common.{None, Result, Ok, Err, if◌then◌else◌, slice_get, refl, sym, ap, ◌∙◌}
-use Rattle.std.proofs.{Math.Bool.and-false, lemmas.List.length-map}
+use Rattle.std.proofs.Common.{◌≡◌, ℕ, ℤ, List, [], length, map, Option, Some, None, Result, Ok, Err}
+use Rattle.std.proofs.Common.{if◌then◌else◌, slice_get, refl, sym, ap, ◌∙◌}
+use Rattle.std.proofs.lemmas.List.{length-map}
 use Rattle.seg_types.specs.declared.kinds.Kind.TheVariants.{Map, Scalar, String, Strings as StringsKind}
-use Rattle.seg_types.specs.declared.refusals.Refusal.TheVariants.{NotFound, OutOfRange, WrongKind}
-use Rattle.seg_types.specs.Names.{ByHandle, Key}
+use Rattle.seg_types.specs.declared.refusals.Refusal.TheVariants.{NotFound, OutOfRange}
 use Rattle.seg_types.specs.{declared.kinds.ScalarKind.ScalarKind, declared.refusals.Refusal.Refusal, Kinds.same_kind}
+use Rattle.seg_types.specs.{Names.ByHandle, Names.Key}
 use Rattle.seg_map.specs.Places.{item_of}
-use Rattle.seg_vector.specs.Vector.{OwnedText}
 use Rattle.segment_manager.specs.Answers.{Answer, Element, Refused, TextElement}
 use Rattle.segment_manager.specs.containers.Contents.{bytes_at, sizes_at, sizes_of, text_bytes}
 use Rattle.segment_manager.specs.Directory.{Value, Numbers, Elements, Bytes, Pairs, Texts, Object, Directory, count_of}
 use Rattle.segment_manager.specs.Directory.{kind_of, live, object_at}
-use Rattle.segment_manager.specs.Plan.{Plan, Refuse, Reply, perform, with}
-use Rattle.segment_manager.specs.Step.{effect, get, is_read_only, step, step_of_kind}
-use Rattle.segment_manager.specs.{declared.modes.Mode.Mode, declared.objects.object_ref.Object.Object as Located}
-use Rattle.segment_manager.specs.{Calls.elements_of, Calls.scalar_reply, objects.Located.IsLocated, Parts.part_of}
-use Rattle.segment_manager.specs.{Parts.parts_until, State.AnswersWith, State.SegmentState, State.DenotesCurrent}
+use Rattle.segment_manager.specs.Plan.{Plan, Reply, perform, with}
+use Rattle.segment_manager.specs.objects.ElementLists.{list_at, texts_at, texts_in}
+use Rattle.segment_manager.specs.{Step.get, Step.step, Step.step_of_kind, State.answer_of}
+use Rattle.segment_manager.specs.{declared.objects.object_ref.Object.Object as Located, objects.Located.IsLocated}
+use Rattle.segment_manager.specs.{Calls.elements_of, Calls.scalar_reply, Parts.part_of, Parts.parts_until}
+use Rattle.segment_manager.specs.State.{AnswersWith, SegmentState, DenotesCurrent}
 use Rattle.segment_manager.proofs.{CommandLaws.answered-reads, ElementLaws.with-found, Laws.IsSaidAt, Laws.said-at}
+use Rattle.segment_manager.proofs.Laws.{got, text-read}
 use Rattle.segment_values.specs.Asked.{length_in}
 use Rattle.segment_values.specs.Contents.{ValueContent, bytes_in, content_of, count_of_content}
 use Rattle.segment_values.specs.Layouts.{Spelling, content_part, count_at, laid_at, laid_object, laid_out, object_count}
 use Rattle.segment_values.specs.Layouts.{object_part, part_at}
 use Rattle.segment_values.specs.Contents as content
 use Rattle.segment_values.proofs.Laid.{parts-laid}
-use Rattle.seg_types.specs.declared.refusals.Refusal.TheVariants as refusal
 use Rattle.seg_types.specs.Commands as asked
 
 -- mapping keeps the length
@@ -33,10 +33,9 @@ length-made g xs = length-map xs g
 
 -- ---- one element
 
--- the text of an element in an answer, or nothing if there is none
+-- the text of a scalar in an answer, or nothing if there is none
 abbrev pub element_text : Spelling → ℕ → Answer → List ℕ
 element_text s i (Element k z) = s.scalar i k z
-element_text s i (TextElement bs) = s.text i bs
 element_text s i answer = []
 
 -- the text of a string at a spelling
@@ -54,16 +53,6 @@ module _ (sp : Spelling) (i : ℕ) (d : Directory) where
   number-read k None = refl
   number-read k (Some z) = refl
 
-  -- a text that is read, or that is not there
-  text-read : (ps : List OwnedText) (j : ℕ)
-      → element_text sp i (perform d (live d) (with (elim (slice_get ps j) as (λ _. Result OwnedText Refusal) [
-        | None ↦ Err OutOfRange
-        | Some p ↦ Ok p
-      ]) (λ p. Reply (TextElement p.bytes) d))).0 ≡ part_of (sp.text i) (slice_get (map bytes_in ps) j)
-  text-read [] j = refl
-  text-read (p ∷ ps) zero = refl
-  text-read (p ∷ ps) (suc j) = text-read ps j
-
   -- the answer for a value whose elements are scalars
   scalar-said : (v : Value) → (kind_of v ≡ String → ⊥) → (kind_of v ≡ StringsKind → ⊥)
       → ((k l : ScalarKind) → kind_of v ≡ Map k l → ⊥) → (answer : Answer)
@@ -78,29 +67,16 @@ module _ (sp : Spelling) (i : ℕ) (d : Directory) where
   scalar-said (Texts ps t) string strings map answer e = absurd (strings refl)
   scalar-said (Pairs k l ps) string strings map answer e = absurd (map k l refl)
 
-  -- the answer for a vector of strings
-  text-said : (v : Value) → kind_of v ≡ StringsKind → (p : Plan) → p ≡ get d v i
-      → element_text sp i (perform d (live d) (if same_kind StringsKind (kind_of v) then p else Refuse WrongKind)).0
-      ≡ content_part sp (content_of v) i
-  text-said (Texts ps t) e p f = ap (λ (q : Plan). element_text sp i (perform d (live d) q).0) f ∙ text-read ps i
-  text-said v e p f = absurd (cc)
+text-said : (sp : Spelling) (i : ℕ) (v : Value) → kind_of v ≡ StringsKind
+    → part_of (sp.text i) (slice_get (if same_kind StringsKind (kind_of v) then texts_in v else []) i)
+    ≡ content_part sp (content_of v) i
+text-said sp i (Texts ps t) e = refl
+text-said sp i v e = absurd (cc)
 
 string-said : (sp : Spelling) (i : ℕ) (v : Value) → kind_of v ≡ String
     → string_text sp i (text_bytes v) ≡ content_part sp (content_of v) i
 string-said sp i (Bytes bs t) e = refl
 string-said sp i v e = absurd (cc)
-
--- an element of a vector of strings that is asked for by its kind
-abbrev for_texts : Directory → Key → ℕ → Option Object → Plan
-for_texts d key i r = with (elim r as (λ _. Result Object Refusal) [ None ↦ Err NotFound | Some o ↦ Ok o ]) (λ o.
-    if same_kind StringsKind (kind_of o.value) then effect d (asked.Get key i) else Refuse WrongKind)
-
-asked-step : (mode : Mode) (d : Directory) (key : Key) (i : ℕ)
-    → (step_of_kind mode d key StringsKind (asked.Get key i)).0
-    ≡ (perform d (live d) (for_texts d key i (object_at d key))).0
-unfolding step_of_kind
-asked-step mode d key i = ap (λ b. (perform d (live d) (if b then Refuse refusal.ReadOnly else for_texts d key i
-    (object_at d key))).0) (and-false (is_read_only mode))
 
 -- the element of a scalar that is asked for
 abbrev scalar_in : Answer → Option Object → Answer
@@ -188,15 +164,14 @@ module _ (s : SegmentState) (o : Located) (l : IsLocated s (ByHandle o.handle) o
       (with-found d (ByHandle o.handle) f.object (λ o. get d o.value i) f.is))
       ∙ sym (ap (part_of (object_part sp i)) f.is)
 
-  -- the text of a string of a vector
+  -- the text of a string of a vector, by how it is read
   pub text-part : (sp : Spelling) (i : ℕ) → o.kind ≡ StringsKind → (d : Directory) → DenotesCurrent s.cut.bytes d
-      → element_text sp i (step_of_kind s.mode d (ByHandle o.handle) StringsKind
-      (asked.Get (ByHandle o.handle) i)).0 ≡ part_at sp d (ByHandle o.handle) i
-  text-part sp i e d st =
+      → (r : Result (List ℕ) Refusal) → answer_of TextElement r ≡ (step_of_kind s.mode d (ByHandle o.handle) StringsKind
+      (asked.Get (ByHandle o.handle) i)).0 → part_of (sp.text i) (got r) ≡ part_at sp d (ByHandle o.handle) i
+  text-part sp i e d st r said =
       let f = here d st in
-      rw (asked-step s.mode d (ByHandle o.handle) i, f.is)
-      (text-said sp i d f.object.value (sym (kind-here d st) ∙ e) (effect d (asked.Get (ByHandle o.handle) i))
-      (with-found d (ByHandle o.handle) f.object (λ o. get d o.value i) f.is))
+      ap (part_of (sp.text i)) (text-read s.mode d (ByHandle o.handle) i r said)
+      ∙ rw (f.is, texts_at, list_at) (text-said sp i f.object.value (sym (kind-here d st) ∙ e))
 
   -- the text of a string
   pub string-part : (sp : Spelling) (i : ℕ) → o.kind ≡ String → (d : Directory) → DenotesCurrent s.cut.bytes d

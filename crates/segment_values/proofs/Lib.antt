@@ -1,4 +1,3 @@
-mod ranges
 pub mod Exits
 pub mod Laid
 pub mod LaidElements

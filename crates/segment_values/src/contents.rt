@@ -1,5 +1,7 @@
 //! Writes the contents of an object: its elements, one after another, in any layout.
 ghost use Rattle.std.specs.Prelude.{◌≡◌, ◌-◌, ◌^◌, ◌<◌};
+ghost use Rattle.raw_region.specs.Device.{Writes};
+ghost use Rattle.seg_types.specs.Values.{kind_of_scalar, value_of_scalar};
 ghost use Rattle.seg_types.specs.{Names.ByHandle, declared.kinds.ScalarKind.ScalarKind as AnyScalarKind};
 ghost use Rattle.seg_types.specs.declared.kinds.Kind.TheVariants.{Map as MapOf};
 ghost use Rattle.segment_manager.specs.{Parts.parts_until, State.AnswersWith, State.DenotesCurrent};
@@ -9,12 +11,50 @@ ghost use Rattle.segment_values.specs.{Asked.length_in, Asked.pair_part, Writing
 ghost use Rattle.segment_values.specs.Layouts.{count_at, laid_at, part_at};
 
 use crate::elements::get_element;
-use crate::layouts::Layout;
-use crate::walking::{least, pair_past};
+use crate::pairs::{least, pair_past};
 use raw_region::{DeviceFault, Sink};
-use seg_types::{Kind, ScalarKind};
+use seg_types::{Kind, ScalarKind, ScalarValue};
 use segment_manager::unchecked::measure_object;
 use segment_manager::{Object, Segment, StringRef, Strings};
+
+/// The text of an element, by its index in the object, from 0 on, and its value.
+pub trait Layout {
+    ghost use Rattle.segment_values.specs.Layouts.{Spelling};
+
+    // The texts of elements.
+    ghost spelling: { Self → Spelling };
+
+    /// Writes a scalar.
+    fn put_scalar<W: Sink>(
+        &self,
+        index: u64,
+        value: ScalarValue,
+        out: &mut W,
+    ) -> Result<(), DeviceFault>
+        requires { (W.history out.old).failures < 2 ^ 64 - 1 }
+        ensures { Writes (W.history out.old) (W.history out.new) result
+            ((spelling self.now).scalar index (kind_of_scalar value) (value_of_scalar value)) };
+
+    /// Writes a text.
+    fn put_text<W: Sink>(&self, index: u64, text: &[u8], out: &mut W) -> Result<(), DeviceFault>
+        requires { (W.history out.old).failures < 2 ^ 64 - 1 }
+        ensures { Writes (W.history out.old) (W.history out.new) result ((spelling self.now).text index text.now) };
+
+    /// Writes a key and its value.
+    fn put_pair<W: Sink>(
+        &self,
+        index: u64,
+        key: ScalarValue,
+        value: ScalarValue,
+        out: &mut W,
+    ) -> Result<(), DeviceFault>
+        requires { (W.history out.old).failures < 2 ^ 64 - 1 }
+        ensures { Writes (W.history out.old) (W.history out.new) result
+            ((spelling self.now).pair index (kind_of_scalar key) (kind_of_scalar value) (
+              value_of_scalar key,
+              value_of_scalar value,
+            )) };
+}
 
 /// Returns the number of scalars, texts or pairs of an object. A string is one text.
 pub fn count_of(segment: &Segment, object: Object) -> u64

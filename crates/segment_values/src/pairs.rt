@@ -1,26 +1,44 @@
-//! Puts, looks up and erases pairs of maps, with keys and values as callers write them.
-ghost use Rattle.std.specs.Prelude.{◌≡◌, Ok, OnErr, false};
+//! Puts, looks up and erases pairs of maps, with keys and values as callers write them, and reads pairs by rising map
+//! keys.
+ghost use Rattle.std.specs.Prelude.{◌≡◌, IfSome, Ok, OnErr, false, option_map};
 ghost use Rattle.seg_types.specs.Commands.{Lookup, Put, Remove};
-ghost use Rattle.seg_types.specs.{declared.kinds.Kind.TheVariants.Map as MapOf, Keys.key_seen, Names.ByHandle};
-ghost use Rattle.seg_types.specs.{Values.kind_of_scalar, Values.value_of_scalar, Written.literal_seen};
+ghost use Rattle.seg_types.specs.{declared.kinds.Kind.TheVariants.Map as MapOf, Keys.key_seen, Kinds.lowest};
+ghost use Rattle.seg_types.specs.{Names.ByHandle, Values.kind_of_scalar, Values.value_of_scalar, Written.literal_seen};
+ghost use Rattle.seg_map.specs.Places.{item_of};
+ghost use Rattle.segment_manager.specs.containers.Maps.{any_value_answer, numbers_in, pair_above};
+ghost use Rattle.segment_manager.specs.containers.Walks.{first_of, item_of_kinds, item_seen, pair_past, pairs_at};
 ghost use Rattle.segment_manager.specs.{Keeping.ChangesValue, Keeping.LacksPair, Keeping.UnchangedWhere};
-ghost use Rattle.segment_manager.specs.{containers.Maps.any_value_answer, Step.is_read_only, State.AnswersQuery};
-ghost use Rattle.segment_manager.specs.{objects.BoundObjects.IsBound, State.AnswersQueryOfKind, State.TakesStep};
-ghost use Rattle.segment_manager.specs.{State.TakesStepOfKind, State.truth_answer};
+ghost use Rattle.segment_manager.specs.{Step.is_read_only, objects.BoundObjects.IsBound, State.TakesStepOfKind};
+ghost use Rattle.segment_manager.specs.State.{AnswersQuery, AnswersQueryOfKind, AnswersWith, TakesStep, truth_answer};
 ghost use Rattle.segment_values.specs.Absent.{LacksLiteral};
 
-use crate::by_pair::by_pair;
-use crate::objects::object_to_change;
-use seg_types::{Key, Kind, Refusal, ScalarKind, ScalarValue, WrittenValue, by_value, pair_of};
+use crate::elements::object_to_change;
+use seg_types::{
+    Key, Kind, Refusal, Scalar, ScalarKind, ScalarValue, WrittenValue, by_kind, by_value, pair_of,
+};
 use segment_manager::{Map, MapMut, Object, Segment, locate};
+
+/// Repeats a piece of code for a map key of each type and each kind of values: for a `bool` and `bool`, `Bool`, and so
+/// on.
+///
+/// `by_pair!(key, kind, work)` calls the macro `work!` with the map key, a type and a name.
+macro_rules! by_pair {
+    ($at:ident, $values:expr, $work:ident) => {
+        seg_types::by_value!($at, $at => match $values {
+            seg_types::ScalarKind::Bool => $work!($at, bool, Bool),
+            seg_types::ScalarKind::U8 => $work!($at, u8, U8),
+            seg_types::ScalarKind::I32 => $work!($at, i32, I32),
+            seg_types::ScalarKind::I64 => $work!($at, i64, I64),
+            seg_types::ScalarKind::U64 => $work!($at, u64, U64),
+        })
+    };
+}
 
 /// Sets the value of a map key in a map, and returns true if the map key is new.
 ///
 /// # Errors
 ///
-/// The first that applies; nothing changes:
-/// - `ReadOnly` if the segment is open for reading;
-/// - `NotFound` if no object has the key;
+/// The first that applies, after those of [`object_to_change`]; nothing changes:
 /// - `WrongKind` if the object is no map, or one of the two does not have the form of its kind;
 /// - `OutOfRange` if one is outside the range of its kind;
 /// - `NoSpace` if the map key is new and no gap is long enough for its block.
@@ -46,10 +64,6 @@ pub fn put_pair<A: WrittenValue, B: WrittenValue>(
 }
 
 /// Sets the value of the map key `at` in a located map of the kinds of both, and returns true if `at` is new.
-///
-/// # Conditions
-///
-/// The object is there and has the kind, and the segment is open for writing.
 ///
 /// # Errors
 ///
@@ -99,14 +113,9 @@ pub fn look_up<L: WrittenValue>(
     }
 }
 
-/// Returns the value of the map key `at` in a located map of its kind and the kind `values`, or `None` if the map lacks
-/// it.
-///
-/// # Conditions
-///
-/// The object is there and has the kind.
+/// Returns the value of the map key `at` in a map of its kind and the kind `values`, or `None` if the map lacks it.
 #[inline(always)]
-pub fn look_up_scalar(
+fn look_up_scalar(
     segment: &Segment,
     object: Object,
     at: ScalarValue,
@@ -130,9 +139,7 @@ pub fn look_up_scalar(
 ///
 /// # Errors
 ///
-/// The first that applies; nothing changes:
-/// - `ReadOnly` if the segment is open for reading;
-/// - `NotFound` if no object has the key;
+/// The first that applies, after those of [`object_to_change`]; nothing changes:
 /// - `WrongKind` if the object is no map, or `at` does not have the form of its map keys;
 /// - `OutOfRange` if `at` is outside their range.
 #[inline(never)]
@@ -171,4 +178,98 @@ fn erase_scalar(segment: &mut Segment, object: Object, at: ScalarValue, values: 
         };
     }
     by_pair!(at, values, erased)
+}
+
+/// Returns the first pair of a located map, or `None` if the map is empty.
+#[inline(always)]
+pub fn first_pair(
+    segment: &Segment,
+    object: Object,
+    keys: ScalarKind,
+    values: ScalarKind,
+) -> Option<(ScalarValue, ScalarValue)>
+    requires { IsBound (MapOf keys values) object segment.now }
+    ensures { AnswersWith segment.now (λ d. option_map (item_of_kinds keys values)
+        (option_map item_of (first_of (pairs_at d (ByHandle object.handle))))) (option_map item_seen result) }
+{
+    pair_past(segment, object, least(keys), false, values)
+}
+
+/// Returns the next pair of a located map after the map key `after`, or `None` if there is none. A loop from
+/// `first_pair` on reads all pairs by rising map keys; each call searches from the root of the tree.
+#[inline(always)]
+pub fn next_pair(
+    segment: &Segment,
+    object: Object,
+    after: ScalarValue,
+    values: ScalarKind,
+) -> Option<(ScalarValue, ScalarValue)>
+    requires { IsBound (MapOf (kind_of_scalar after) values) object segment.now }
+    ensures { AnswersWith segment.now (λ d. option_map (item_of_kinds (kind_of_scalar after) values)
+        (pair_above (value_of_scalar after) (pairs_at d (ByHandle object.handle)))) (option_map item_seen result) }
+{
+    pair_past(segment, object, after, true, values)
+}
+
+/// Returns the least value of a kind.
+pub fn least(kind: ScalarKind) -> ScalarValue
+    ensures kind { kind_of_scalar result ≡ kind }
+    ensures value { value_of_scalar result ≡ lowest kind }
+{
+    macro_rules! least {
+        (bool, Bool) => {
+            ScalarValue::Bool(false)
+        };
+        ($type:ty, $kind:ident) => {
+            ScalarValue::$kind(<$type>::MIN)
+        };
+    }
+    by_kind!(kind, least)
+}
+
+/// Returns the map's first pair whose map key is above a bound, or not below it. It is inlined, as is the call for
+/// types below, so the choice between the two costs no test where `above` is known.
+#[inline(always)]
+pub fn pair_past(
+    segment: &Segment,
+    object: Object,
+    bound: ScalarValue,
+    above: bool,
+    values: ScalarKind,
+) -> Option<(ScalarValue, ScalarValue)>
+    requires { IsBound (MapOf (kind_of_scalar bound) values) object segment.now }
+    ensures pair { AnswersWith segment.now (λ d. option_map (item_of_kinds (kind_of_scalar bound) values)
+        (pair_past above (value_of_scalar bound) (pairs_at d (ByHandle object.handle)))) (option_map item_seen result) }
+    ensures kind { IfSome result (λ (at, value). kind_of_scalar at ≡ kind_of_scalar bound) }
+{
+    macro_rules! read {
+        ($bound:ident, $type:ty, $kind:ident) => {
+            match typed_pair::<_, $type>(segment, object, $bound, above) {
+                None => None,
+                Some((at, value)) => Some((ScalarValue::from(at), ScalarValue::$kind(value))),
+            }
+        };
+    }
+    by_pair!(bound, values, read)
+}
+
+/// Returns the map's first pair whose map key is above a bound, or not below it, for a map of two types.
+#[inline(always)]
+fn typed_pair<K: Scalar, V: Scalar>(
+    segment: &Segment,
+    object: Object,
+    bound: K,
+    above: bool,
+) -> Option<(K, V)>
+    requires { IsBound (MapOf K.kind V.kind) object segment.now }
+    ensures { AnswersWith segment.now (λ d. option_map (item_of_kinds K.kind V.kind)
+        (pair_past above (K.whole bound) (pairs_at d (ByHandle object.handle))))
+        (option_map (item_of_kinds K.kind V.kind) (numbers_in K.whole V.whole result)) }
+{
+    let map = Map::<K, V>::at(segment, object);
+    if above {
+        map.next_after(bound)
+    } else {
+        map.first_from(bound)
+    }
 }

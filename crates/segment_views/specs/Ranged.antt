@@ -7,7 +7,8 @@ use Rattle.seg_types.specs.declared.kinds.ScalarKind.{ScalarKind}
 use Rattle.seg_types.specs.Names.{Key}
 use Rattle.seg_map.specs.Numbers.{NumberPair}
 use Rattle.seg_map.specs.Places.{item_of, nodes_of_pairs}
-use Rattle.segment_manager.specs.Directory.{Directory}
+use Rattle.segment_manager.specs.{Directory.Directory, objects.BoundObjects.key_of}
+use Rattle.segment_manager.specs.declared.objects.object_ref.Object.{Object}
 use Rattle.segment_manager.specs.State.{AnswersWith, SegmentState, DenotesCurrent}
 use Rattle.segment_manager.specs.containers.Walks.{pairs_at_kinds}
 
@@ -59,6 +60,10 @@ pub record PairWalk : Type 0 where
   pub end : Bound ℤ
   pub left : ℕ
 
+-- the walk over a located map between two bounds
+abbrev pub walk_of : SegmentState → Object → Bound ℤ → Bound ℤ → ℕ → PairWalk
+walk_of s o start end left = record { segment = s; key = key_of o; start = start; end = end; left = left }
+
 -- the pairs that are left, by rising keys
 abbrev pub pairs_left : ScalarKind → ScalarKind → Directory → PairWalk → List (ℤ × ℤ)
 pairs_left k v d w = range_of w.start w.end (pairs_at_kinds d w.key k v)
@@ -73,21 +78,23 @@ abbrev pub TakesLast : {A B : Type 0} → (A → B) → Option A → List B → 
 TakesLast seen None before after = (before ≡ []) × (after ≡ [])
 TakesLast seen (Some x) before after = before ≡ after ++ seen x ∷ []
 
--- an iterator gives the first pair that is left
-pub record GoesOnPairs {A : Type 0} (k v : ScalarKind) (seen : A
-    → ℤ × ℤ) (old : PairWalk) (item : Option A) (new : PairWalk) : Type 0 where
+-- an iterator gives a pair from one end of those that are left, or none
+pub record StepsPairs {A : Type 0} (k v : ScalarKind) (Takes : Option A → List (ℤ × ℤ) → List (ℤ × ℤ)
+    → Type 0) (old : PairWalk) (item : Option A) (new : PairWalk) : Type 0 where
   pub segment : new.segment ≡ old.segment
   pub key : new.key ≡ old.key
   pub pairs : (d : Directory) → DenotesCurrent old.segment.cut.bytes d
-      → TakesFirst seen item (pairs_left k v d old) (pairs_left k v d new)
+      → Takes item (pairs_left k v d old) (pairs_left k v d new)
+
+-- an iterator gives the first pair that is left
+abbrev pub GoesOnPairs : {A : Type 0} → ScalarKind → ScalarKind → (A
+    → ℤ × ℤ) → PairWalk → Option A → PairWalk → Type 0
+GoesOnPairs k v seen = StepsPairs k v (TakesFirst seen)
 
 -- an iterator gives the last pair that is left
-pub record GoesBackPairs {A : Type 0} (k v : ScalarKind) (seen : A
-    → ℤ × ℤ) (old : PairWalk) (item : Option A) (new : PairWalk) : Type 0 where
-  pub segment : new.segment ≡ old.segment
-  pub key : new.key ≡ old.key
-  pub pairs : (d : Directory) → DenotesCurrent old.segment.cut.bytes d
-      → TakesLast seen item (pairs_left k v d old) (pairs_left k v d new)
+abbrev pub GoesBackPairs : {A : Type 0} → ScalarKind → ScalarKind → (A
+    → ℤ × ℤ) → PairWalk → Option A → PairWalk → Type 0
+GoesBackPairs k v seen = StepsPairs k v (TakesLast seen)
 
 -- this many pairs are left at most, and these nodes are listed ahead
 pub record IsPairWalk (k v : ScalarKind) (w : PairWalk) (ahead : List ℕ) : Type 0 where

@@ -1,6 +1,5 @@
 -- What iterators give.
-use Rattle.std.specs.Prelude.{◌≡◌, ℕ, Option, Some, None, Result, Ok, Err, List, option_map, slice_get}
-use Rattle.seg_types.specs.declared.refusals.Refusal.{Refusal}
+use Rattle.std.specs.Prelude.{◌≡◌, ℕ, Option, List, option_map, slice_get}
 use Rattle.seg_types.specs.Names.{Key}
 use Rattle.segment_manager.specs.Directory.{Directory}
 use Rattle.segment_manager.specs.indexes.Iterating.{place_behind}
@@ -19,8 +18,3 @@ pub record GoesOnElements {A B : Type 0} (elements : Directory → Key → List 
   pub key : new.key ≡ old.key
   pub place : new.at ≡ place_behind old.at item
   pub says : AnswersWith old.segment (λ d. slice_get (elements d old.key) old.at) (option_map seen item)
-
--- the element that is read, as it is seen; none if the reading is refused
-abbrev pub element_of : {A B : Type 0} → (A → B) → Result A Refusal → Option B
-element_of seen (Ok a) = Some (seen a)
-element_of seen (Err why) = None

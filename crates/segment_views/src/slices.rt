@@ -33,11 +33,10 @@ impl<'a, T: Scalar, S: SliceStorage> SliceReads<T, S> for Bound<'a, Slice<T, S>>
     fn iter(&self) -> SliceItems<'_, T, S>
         ensures { result ≡ record { segment = self.now.segment.now; key = key_of self.now.object; at = 0 } }
     {
-        let len = self.len();
         SliceItems {
             slice: *self,
             at: 0,
-            len,
+            len: self.len(),
         }
     }
 
@@ -96,12 +95,8 @@ impl<'a, T: Scalar, S: SliceStorage> Iterator for BoundElements<'a, Slice<T, S>>
         if self.at >= self.len {
             return None;
         }
-        match self.slice.get(self.at) {
-            Err(_) => None,
-            Ok(value) => {
-                self.at += 1;
-                Some(value)
-            }
-        }
+        let value = self.slice.get(self.at).ok()?;
+        self.at += 1;
+        Some(value)
     }
 }

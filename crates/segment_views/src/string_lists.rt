@@ -19,11 +19,10 @@ impl<'a> TextSequence for Strings<'a> {
     fn iter(&self) -> TextItems<'_>
         ensures { result ≡ record { segment = self.now.segment.now; key = key_of self.now.object; at = 0 } }
     {
-        let len = self.len();
         TextItems {
             texts: *self,
             at: 0,
-            len,
+            len: self.len(),
         }
     }
 }
@@ -64,12 +63,8 @@ impl<'a> Iterator for BoundTexts<'a, Texts> {
         if self.at >= self.len {
             return None;
         }
-        match self.texts.get(self.at) {
-            Err(_) => None,
-            Ok(text) => {
-                self.at += 1;
-                Some(text)
-            }
-        }
+        let text = self.texts.get(self.at).ok()?;
+        self.at += 1;
+        Some(text)
     }
 }

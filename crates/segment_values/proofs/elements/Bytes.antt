@@ -11,7 +11,7 @@ use Rattle.segment_manager.specs.{declared.objects.object_ref.Object.Object as L
 use Rattle.segment_manager.specs.objects.{Located.IsLocated, Standing.offset_in, Standing.place_at}
 use Rattle.segment_manager.specs.State.{SegmentState, DenotesCurrent}
 use Rattle.segment_manager.proofs.Laws.{said-at, same-object}
-use Rattle.segment_values.proofs.ranges.Slices.{one-kind}
+use Rattle.segment_values.proofs.elements.InPlace.{one-kind}
 
 -- a property of a success implies another
 on_ok-map : {P Q : Type 0} (r : Result (Unit {0}) Refusal) → (P → Q) → OnOk r P → OnOk r Q

@@ -10,8 +10,8 @@ use Rattle.segment_manager.specs.{objects.Located.IsLocated, State.TakesStepOfKi
 use Rattle.segment_manager.proofs.CommandLaws.{insert-element, push-element}
 use Rattle.segment_manager.proofs.Laws.{located-steps}
 use Rattle.segment_values.specs.Changes.{command_at}
-use Rattle.segment_values.specs.declared.vectors.InsertSpot.{InsertSpot}
-use Rattle.segment_values.specs.declared.vectors.InsertSpot.TheVariants.{End, Before}
+use Rattle.segment_values.specs.declared.elements.InsertSpot.{InsertSpot}
+use Rattle.segment_values.specs.declared.elements.InsertSpot.TheVariants.{End, Before}
 
 module _ {s : SegmentState} {key : Key} {l : Literal} where
   -- a literal that is no element is refused

@@ -2,7 +2,7 @@
 use Rattle.std.proofs.Common.{◌≡◌, refl, sym, ◌∙◌, ap, ℕ, Bool, true, false, Option, None, Some, Result, Ok, Err, List}
 use Rattle.std.proofs.Common.{[], length, if◌then◌else◌}
 use Rattle.std.proofs.lemmas.{Bool.eqb-true, List.length-map, Option.same_Some}
-use Rattle.std.specs.Prelude.{slice_get}
+use Rattle.std.specs.{Prelude.option_map, Prelude.slice_get, Result.result_ok}
 use Rattle.seg_types.specs.{Commands.Get, Kinds.code_of, Kinds.kind_of_code, Kinds.same_kind, Names.Key}
 use Rattle.seg_types.specs.declared.kinds.Kind.TheVariants.{Strings as StringsKind}
 use Rattle.seg_types.specs.declared.refusals.Refusal.{Refusal}
@@ -13,7 +13,6 @@ use Rattle.segment_manager.specs.{State.SegmentState, State.answer_of}
 use Rattle.segment_manager.specs.Directory.{Object, Texts, Value, kind_of, object_at}
 use Rattle.segment_manager.specs.containers.Contents.{sizes_of, sizes_of_kind}
 use Rattle.segment_manager.specs.objects.ElementLists.{first_size, length_at_kind, number_or_none, texts_at, texts_in}
-use Rattle.segment_views.specs.Walked.{element_of}
 
 -- ---- one text
 
@@ -21,7 +20,7 @@ module _ (s : SegmentState) (key : Key) where
   -- a text that is read is the list's
   pub text-item : (at : ℕ) {A : Type 0} (bytes : A → List ℕ) (r : Result A Refusal)
       → AnswersQueryOfKind s key StringsKind (Get key at) (answer_of (λ x. TextElement (bytes x)) r)
-      → AnswersWith s (λ d. slice_get (texts_at d key) at) (element_of bytes r)
+      → AnswersWith s (λ d. slice_get (texts_at d key) at) (option_map bytes (result_ok r))
   text-item at bytes (Ok x) a = record { answers = λ d h. text-read s.mode d key at (Ok (bytes x)) (a.answers d h) }
   text-item at bytes (Err why) a = record { answers = λ d h. text-read s.mode d key at (Err why) (a.answers d h) }
 

@@ -1,4 +1,4 @@
-use Rattle.std.proofs.Common.{sym, ap, ◌∙◌, Ok}
+use Rattle.std.proofs.Common.{sym, ap, ◌∙◌, Ok, Err}
 use Rattle.seg_types.specs.Values.{kind_of_scalar, value_of_scalar}
 use Rattle.seg_types.specs.{declared.kinds.Kind.TheVariants.Strings, Commands.Get}
 use Rattle.segment_manager.specs.{Answers.Refused, Answers.TextElement, containers.Contents.bytes_at, State.AnswersWith}
@@ -23,9 +23,8 @@ returns-in-Ok g c =
     let said = of-bound (λ o s. AnswersQueryOfKind s (key_of o) Strings (Get (key_of o) c.args.index)
     (TextElement c.in-Ok.text.now))
     c.at-in-Strings.ensures.object c.at-in-Strings.ensures.segment c.in-Ok.ensures.reply in
-    of-one c.put_text-in-Ok.ensures
-    (λ d k. ap (element_text sp c.args.index) (said.answers d k)
-    ∙ text-part c.args.segment.now c.args.object c.requires.object sp c.args.index c.in-Strings.is d k)
+    of-one c.put_text-in-Ok.ensures (λ d k. text-part c.args.segment.now c.args.object c.requires.object sp c.args.index
+    c.in-Strings.is d k (Ok c.in-Ok.text.now) (said.answers d k))
 
 pub returns-in-Err : goal.returns-in-Err
 returns-in-Err g c =
@@ -33,9 +32,8 @@ returns-in-Err g c =
     let said = of-bound (λ o s. AnswersQueryOfKind s (key_of o) Strings (Get (key_of o) c.args.index)
     (Refused c.in-Err.field-0))
     c.at-in-Strings.ensures.object c.at-in-Strings.ensures.segment c.in-Err.ensures.reply in
-    of-none
-    (λ d k. sym (ap (element_text sp c.args.index) (said.answers d k)
-    ∙ text-part c.args.segment.now c.args.object c.requires.object sp c.args.index c.in-Strings.is d k))
+    of-none (λ d k. sym (text-part c.args.segment.now c.args.object c.requires.object sp c.args.index c.in-Strings.is d
+    k (Err c.in-Err.field-0) (said.answers d k)))
 
 pub returns-in-Ok-get_element : goal.returns-in-Ok-get_element
 returns-in-Ok-get_element g c =

@@ -4,7 +4,7 @@ use Rattle.std.specs.Option.{ok_or}
 use Rattle.raw_region.proofs.Laws.{read-part}
 use Rattle.seg_types.specs.{declared.refusals.Refusal.TheVariants.WrongKind, Kinds.size_of, Names.ByHandle}
 use Rattle.segment_manager.proofs.ElementLaws.{run-past, run-reads, run-refused}
-use Rattle.segment_values.proofs.{Exits.exit-is, ranges.InPlace.element-inside, ranges.InPlace.slice-part}
+use Rattle.segment_values.proofs.{Exits.exit-is, elements.InPlace.element-inside, elements.InPlace.slice-part}
 use Rattle.segment_values.proofs.elements.get_element.Goals as goal
 
 pub returns-in_err-run : goal.returns-in_err-run

@@ -5,4 +5,4 @@ use Rattle.segment_views.proofs.string_lists.StringsTextSequence.iter.Goals as g
 
 pub invariant_of-result : goal.invariant_of-result
 invariant_of-result c =
-    texts-many c.args.self.now.segment.now (key_of c.args.self.now.object) c.len-len.result c.len-len.ensures
+    texts-many c.args.self.now.segment.now (key_of c.args.self.now.object) c.len.result c.len.ensures

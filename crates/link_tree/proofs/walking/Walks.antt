@@ -60,28 +60,25 @@ ahead_at {lt = lt} strict h n levels link here t e a =
 
 -- both walks below a node are ahead: one over the left tree from the node, and one over the right tree from where the
 -- first one ends
-pub record BothAhead {S : Type 0} (order : S → ℕ → ℕ → Bool) (cells : S → ℕ → Cell) (n levels : ℕ) (ns : List ℕ)
-    (s s' : S) (left_link here right_link later : Option ℕ) : Type 0 where
+pub record BothAhead (lt : ℕ → ℕ → Bool) (h : ℕ → Cell) (n levels : ℕ) (ns : List ℕ)
+    (left_link here right_link later : Option ℕ) : Type 0 where
   pub left : Tree
   pub right : Tree
   pub nodes : ns ≡ nodes_of left ++ n ∷ nodes_of right
   pub size : length ns ≡ length (nodes_of left) + length (nodes_of right) + 1
   pub positive : 0 < levels
-  pub left_ahead : IsAhead (order s) (cells s) left_link (levels - 1) here left
-  pub right_ahead : IsAhead (order s') (cells s') right_link (levels - 1) later right
+  pub left_ahead : IsAhead lt h left_link (levels - 1) here left
+  pub right_ahead : IsAhead lt h right_link (levels - 1) later right
 
 -- walks to both sides of a node meet all nodes
-pub both_ahead : {S : Type 0} (order : S → ℕ → ℕ → Bool) (cells : S → ℕ → Cell) (n levels : ℕ) (ns : List ℕ)
-    (s s' s'' : S) (left_link here right_link later before : Option ℕ)
-    → AreAhead (order s) (cells s) n levels before ns → here ≡ Some n
-    → ((t : Tree) → IsAhead (order s') (cells s') left_link (levels - 1) here t → (m : ℕ)
+pub both_ahead : {lt : ℕ → ℕ → Bool} {h : ℕ → Cell} (n levels : ℕ) (ns : List ℕ)
+    (left_link here right_link later before : Option ℕ) → AreAhead lt h n levels before ns → here ≡ Some n
+    → ((t : Tree) → IsAhead lt h left_link (levels - 1) here t → (m : ℕ)
     → is_in m (nodes_of t) ≡ false → here ≢ Some m → later ≢ Some m)
-    → s' ≡ s → s'' ≡ s → left_link ≡ (cells s n).left → right_link ≡ (cells s n).right
-    → BothAhead order cells n levels ns s' s'' left_link here right_link later
-both_ahead order cells n levels ns s s' s'' left_link here right_link later before p at_node stands same same' is_left
-    is_right =
-    let first : IsAhead (order s') (cells s') left_link (levels - 1) here p.left =
-    rw (same, is_left) (p.left_ahead here at_node) in
+    → left_link ≡ (h n).left → right_link ≡ (h n).right
+    → BothAhead lt h n levels ns left_link here right_link later
+both_ahead {lt = lt} {h = h} n levels ns left_link here right_link later before p at_node stands is_left is_right =
+    let first : IsAhead lt h left_link (levels - 1) here p.left = rw is_left (p.left_ahead here at_node) in
     record {
       left = p.left;
       right = p.right;
@@ -89,5 +86,5 @@ both_ahead order cells n levels ns s s' s'' left_link here right_link later befo
       size = p.size;
       positive = p.positive;
       left_ahead = first;
-      right_ahead = rw (same', is_right) (p.right_ahead here later at_node (stands p.left first));
+      right_ahead = rw is_right (p.right_ahead here later at_node (stands p.left first));
     }

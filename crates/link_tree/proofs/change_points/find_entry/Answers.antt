@@ -37,7 +37,7 @@ returns-then-not-red-clause-entry g c = λ t k.
     let e = ends g s (g.N.Nodes.before s c.args.probe.now) c.args.root (Some c.in-Some.node)
     (rw c.in-Some.is at c.requires.tree) t k in
     let black : (g.N.Nodes.cells s c.in-Some.node).red ≡ false =
-    sym (rw c.new-visits.ensures.nodes at c.red.ensures.value) ∙ c.if-not-red.true in
+    sym c.red.ensures.value ∙ c.if-not-red.true in
     sym (e.black black)
 
 pub returns-then-not-red-clause-steps : goal.returns-then-not-red-clause-steps

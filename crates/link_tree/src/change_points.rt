@@ -1,7 +1,6 @@
 //! Searches that also return the node at which a later insertion or removal begins.
 
 ghost use Rattle.std.specs.Prelude.{◌≡◌, ℕ, ◌+◌, ◌*◌, ◌≤◌, Bool, true, false, Option, Some, None, List, length, IfSome};
-ghost use Rattle.std.specs.Prelude.{if◌then◌else◌};
 ghost use Rattle.link_tree.specs.Tree.{Tree, IsSearchTree, nodes_of, bits};
 ghost use Rattle.link_tree.specs.Nodes.{leads, first_not_before};
 ghost use Rattle.link_tree.specs.Searching.{path_length};
@@ -202,13 +201,13 @@ pub fn find_entry<N: Nodes>(
     if !visits.red(nodes, node) {
         return EntryPoint {
             entry: last,
-            steps: visits.steps(),
+            steps: visits.steps,
         };
     }
     let way = find_insert_point(nodes, root, probe);
     EntryPoint {
         entry: way.entry,
-        steps: visits.steps() + way.steps,
+        steps: visits.steps + way.steps,
     }
 }
 

@@ -157,11 +157,11 @@ pub fn check<N: Nodes>(nodes: &N, root: Option<u64>) -> CheckedTree
     let Some(part) = check_below(nodes, &mut visits, root, None, None, true, MAX_HEIGHT) else {
         return CheckedTree {
             nodes: None,
-            steps: visits.steps(),
+            steps: visits.steps,
         };
     };
     CheckedTree {
         nodes: Some(part.nodes),
-        steps: visits.steps(),
+        steps: visits.steps,
     }
 }

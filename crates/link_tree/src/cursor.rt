@@ -50,7 +50,8 @@ pub struct DescentStep {
 #[derive(Clone, Copy)]
 pub struct NodeCursor {
     at: Option<u64>,
-    steps: u64,
+    /// The number of steps so far. Only the calls of this file change it.
+    pub steps: u64,
 }
 
 impl NodeCursor {
@@ -62,13 +63,6 @@ impl NodeCursor {
         ensures steps { result.steps ≡ 0 }
     {
         NodeCursor { at: None, steps: 0 }
-    }
-
-    /// Returns the number of steps so far.
-    pub fn steps(&self) -> u64
-        ensures { result ≡ self.now.steps }
-    {
-        self.steps
     }
 
     fn go(&mut self, node: u64)

@@ -1,7 +1,6 @@
 //! The search that all calls share. It goes down a tree and folds a value over the nodes of its path.
 
-ghost use Rattle.std.specs.Prelude.{◌≡◌, ℕ, ◌+◌, ◌*◌, ◌<◌, ◌≤◌, ◌^◌, Bool, true, false, Option, Some, None, List};
-ghost use Rattle.std.specs.Prelude.{length};
+ghost use Rattle.std.specs.Prelude.{◌≡◌, ℕ, ◌+◌, ◌*◌, ◌≤◌, Bool, true, Option, Some, length};
 ghost use Rattle.link_tree.specs.Tree.{Tree, IsSearchTree, nodes_of, bits};
 ghost use Rattle.link_tree.specs.Nodes.{leads};
 ghost use Rattle.link_tree.specs.Searching.{path_length, noted};
@@ -61,6 +60,6 @@ pub fn descend<N: Nodes, K: PathFold>(
     }
     Descent {
         folded,
-        steps: visits.steps(),
+        steps: visits.steps,
     }
 }

@@ -139,21 +139,21 @@ pub fn insert_at<N: NodesMut>(
         visits.set_child(nodes, start, way.side, Some(child));
         return TreeChange {
             root,
-            steps: visits.steps(),
+            steps: visits.steps,
         };
     }
     let Some(top) = root else {
         make_leaf(nodes, &mut visits, node, false);
         return TreeChange {
             root: Some(node),
-            steps: visits.steps(),
+            steps: visits.steps,
         };
     };
     let risen = insert_below(nodes, &mut visits, top, node);
     paint(nodes, &mut visits, Some(risen), false);
     TreeChange {
         root: Some(risen),
-        steps: visits.steps(),
+        steps: visits.steps,
     }
 }
 

@@ -1,7 +1,6 @@
 //! Lists the nodes of a tree in order, from a probe on.
 
-ghost use Rattle.std.specs.Prelude.{◌≡◌, ℕ, ◌+◌, ◌*◌, ◌<◌, ◌≤◌, ◌^◌, Bool, true, false, Option, Some, List, length};
-ghost use Rattle.std.specs.Prelude.{min};
+ghost use Rattle.std.specs.Prelude.{◌≡◌, ◌+◌, ◌*◌, ◌<◌, ◌≤◌, ◌^◌, true, false, Option, Some, length, min};
 ghost use Rattle.link_tree.specs.Tree.{Tree, IsSearchTree, nodes_of, bits};
 ghost use Rattle.link_tree.specs.Nodes.{leads};
 ghost use Rattle.link_tree.specs.Listing.{IsLowSearchTree, Lists, filled, nodes_from};
@@ -112,6 +111,6 @@ pub fn list_nodes_from<N: Nodes>(
     let count = list_from(nodes, &mut visits, root, probe, list, MAX_HEIGHT);
     Listing {
         count,
-        steps: visits.steps(),
+        steps: visits.steps,
     }
 }

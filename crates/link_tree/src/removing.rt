@@ -5,7 +5,6 @@ ghost use Rattle.std.specs.Prelude.{length, IfSome, IsTrue};
 ghost use Rattle.link_tree.specs.Tree.{Cell, Tree, IsTree, IsSearchTree, nodes_of, is_sorted, height, bits};
 ghost use Rattle.link_tree.specs.Nodes.{leads, is_in, without};
 ghost use Rattle.link_tree.specs.Sides.{opposite, child_of, joined_at};
-ghost use Rattle.link_tree.specs.Turning.{BecomesTree};
 ghost use Rattle.link_tree.specs.Shrinking.{RemovedSubtree, IsOrderedTree, RemovesTo, mended, settled, sunk, least_of};
 ghost use Rattle.link_tree.specs.Shrinking.{without_least, uprooted, after_remove, spare};
 ghost use Rattle.link_tree.specs.Ways.{remove_point_of};
@@ -28,39 +27,6 @@ struct Leftover {
 struct Least {
     node: u64,
     rest: Leftover,
-}
-
-/// Rebalances as `mend` does, if the heavy child is red: the heavy child's inner child gives up a black node.
-fn mend_red<N: NodesMut>(
-    nodes: &mut N,
-    visits: &mut NodeCursor,
-    top: u64,
-    heavy: u64,
-    side: Side,
-) -> Leftover
-    requires node { N.is_node nodes.old top ≡ true }
-    requires child { child_of side (N.cells nodes.old top) ≡ Some heavy }
-    requires red { (N.cells nodes.old heavy).red ≡ true }
-    requires no_overflow { visits.old.steps + 20 < 2 ^ 64 }
-    ensures repair { (t : Tree) → IsTree (N.cells nodes.old) (Some top) t
-        → is_sorted (N.order nodes.old) (nodes_of t) ≡ true
-        → RemovesTo (N.cells nodes.old) (N.cells nodes.new) (nodes_of t) result.root result.fell (mended side t) }
-    ensures height { result.fell ≡ false }
-    ensures root { leads (N.is_node nodes.old) result.root ≡ true }
-    ensures steps_upper { visits.new.steps ≤ visits.old.steps + 18 }
-    ensures steps_lower { visits.old.steps ≤ visits.new.steps }
-    ensures keeper { SameExceptCells N.Nodes nodes.old nodes.new }
-{
-    rotate(nodes, visits, top, side);
-    visits.set_red(nodes, heavy, false);
-    let inner = visits.child(nodes, top, side);
-    paint(nodes, visits, inner, true);
-    let root = fix_double_red(nodes, visits, top, side);
-    visits.set_child(nodes, heavy, side.other(), Some(root));
-    Leftover {
-        root: Some(heavy),
-        fell: false,
-    }
 }
 
 /// Moves a black node from this side, the heavy one, to the other side of `top` if that side lost one.
@@ -86,7 +52,17 @@ fn mend<N: NodesMut>(nodes: &mut N, visits: &mut NodeCursor, top: u64, side: Sid
     };
     let red = visits.red(nodes, top);
     if visits.red(nodes, heavy) {
-        return mend_red(nodes, visits, top, heavy, side);
+        // the heavy child's inner child gives up a black node
+        rotate(nodes, visits, top, side);
+        visits.set_red(nodes, heavy, false);
+        let inner = visits.child(nodes, top, side);
+        paint(nodes, visits, inner, true);
+        let low = fix_double_red(nodes, visits, top, side);
+        visits.set_child(nodes, heavy, side.other(), Some(low));
+        return Leftover {
+            root: Some(heavy),
+            fell: false,
+        };
     }
     visits.set_red(nodes, heavy, true);
     visits.set_red(nodes, top, false);
@@ -298,14 +274,14 @@ pub fn remove_at<N: NodesMut>(
         cut(nodes, &mut visits, Some(start), node);
         return TreeChange {
             root,
-            steps: visits.steps(),
+            steps: visits.steps,
         };
     }
     let rest = cut(nodes, &mut visits, root, node);
     paint(nodes, &mut visits, rest.root, false);
     TreeChange {
         root: rest.root,
-        steps: visits.steps(),
+        steps: visits.steps,
     }
 }
 

@@ -58,5 +58,5 @@ pub fn walk<N: Nodes, F: FnMut(u64)>(nodes: &N, root: Option<u64>, visit: &mut F
 {
     let mut visits = NodeCursor::new();
     walk_below(nodes, &mut visits, root, visit, MAX_HEIGHT);
-    visits.steps()
+    visits.steps
 }

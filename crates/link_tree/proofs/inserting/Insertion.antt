@@ -22,9 +22,8 @@ use Rattle.link_tree.proofs.trees.OneSided.{with_child-other, with_child-near, i
 use Rattle.link_tree.proofs.trees.OneSided.{nodes_of-joined, nodes_of-painted, nodes_of-turn}
 use Rattle.link_tree.proofs.inserting.Rotations.{graft}
 use Rattle.link_tree.proofs.trees.BlackHeights.{blackened_red_black, even_tree, IsEven, IsNearlyEven, red_nearly}
-use Rattle.link_tree.proofs.trees.BlackHeights.{rebalanced_even}
-use Rattle.link_tree.proofs.trees.BlackHeights.{rebalanced_red, red_of_join, nearly_even, under_red, sides_of_red}
-use Rattle.link_tree.proofs.trees.BlackHeights.{sides_of_black}
+use Rattle.link_tree.proofs.trees.BlackHeights.{rebalanced_even, rebalanced_red, red_of_join, nearly_even, under_red}
+use Rattle.link_tree.proofs.trees.BlackHeights.{sides_of_red, sides_of_black}
 
 -- ---- lists
 
@@ -367,23 +366,22 @@ leaf_even lt h x link e leaf w = refl
 leaf_even lt h x link e (fork red l n r) w = absurd (none_some n (sym e ∙ w.tree.root))
 
 -- a black node alone is the tree after an insertion into an empty one
-pub laid : {lt : ℕ → ℕ → Bool} (lt' : ℕ → ℕ → Bool) (h h1 h' : ℕ → Cell) (root : Option ℕ) (x : ℕ) (t : Tree)
-    → root ≡ None → IsSearchTree lt h root t → BecomesTree h h1 (x ∷ []) (Some x) (fork false leaf x leaf) → h' ≡ h1
-    → IsChanged lt' h h' (Some x) (x ∷ nodes_of t) (insert_in_order lt x (nodes_of t))
-laid lt' h h1 h' root x leaf e k b eh =
-    rw eh (record {
-      tree = (
-        fork false leaf x leaf,
-        record {
-          tree = b.tree;
-          ordered = refl;
-          red_black = record { root = refl; no_red_pair = refl; black = (1, refl) };
-        },
-        refl,
-      );
-      frame = b.frame;
-    })
-laid lt' h h1 h' root x (fork red l n r) e k b eh = absurd (none_some n (sym e ∙ k.tree.root))
+pub laid : {lt : ℕ → ℕ → Bool} (lt' : ℕ → ℕ → Bool) (h h1 : ℕ → Cell) (root : Option ℕ) (x : ℕ) (t : Tree)
+    → root ≡ None → IsSearchTree lt h root t → BecomesTree h h1 (x ∷ []) (Some x) (fork false leaf x leaf)
+    → IsChanged lt' h h1 (Some x) (x ∷ nodes_of t) (insert_in_order lt x (nodes_of t))
+laid lt' h h1 root x leaf e k b = record {
+  tree = (
+    fork false leaf x leaf,
+    record {
+      tree = b.tree;
+      ordered = refl;
+      red_black = record { root = refl; no_red_pair = refl; black = (1, refl) };
+    },
+    refl,
+  );
+  frame = b.frame;
+}
+laid lt' h h1 root x (fork red l n r) e k b = absurd (none_some n (sym e ∙ k.tree.root))
 
 -- the tree below a node, where another node is to go
 pub record GrowsBelow (lt : ℕ → ℕ → Bool) (h : ℕ → Cell) (side : Side) (at x : ℕ) (t : Tree) : Type 0 where
@@ -416,14 +414,13 @@ pub frame_beside : {lt : ℕ → ℕ → Bool} {h h' : ℕ → Cell} {root : Opt
 frame_beside {x = x} {ns = ns} c m d o = c.frame m (or_from (nat_eq m x) (is_in m ns) (ne_eqb m x d) o)
 
 -- the whole insertion, its root made black
-pub inserted : {lt : ℕ → ℕ → Bool} → IsStrict lt → (lt' : ℕ → ℕ → Bool) (h h1 h2 h' : ℕ → Cell) (root : Option ℕ)
-    (x top : ℕ) (t : Tree) → IsSearchTree lt h root t → is_ordered_with lt x (nodes_of t) ≡ true
+pub inserted : {lt : ℕ → ℕ → Bool} → IsStrict lt → (h h1 h2 : ℕ → Cell) (root : Option ℕ) (x top : ℕ) (t : Tree)
+    → IsSearchTree lt h root t → is_ordered_with lt x (nodes_of t) ≡ true
     → BecomesTree h h1 (x ∷ nodes_of t) (Some top) (after_insert lt x t)
     → Makes lt h1 h2 (Some top) (Some top) blackened
-    → h' ≡ h2 → lt' ≡ lt → IsChanged lt' h h' (Some top) (x ∷ nodes_of t) (insert_in_order lt x (nodes_of t))
-inserted {lt = lt} strict lt' h h1 h2 h' root x top t k p g black eh el =
-    blackened_whole lt' h h1 h2 h' (Some top) (after_insert lt x t) (x ∷ nodes_of t)
-    (insert_in_order lt x (nodes_of t)) g black
-    (grown_red_black lt x t k.red_black) (nodes_of-after_insert strict x t k.ordered)
+    → IsChanged lt h h2 (Some top) (x ∷ nodes_of t) (insert_in_order lt x (nodes_of t))
+inserted {lt = lt} strict h h1 h2 root x top t k p g black =
+    blackened_whole h h1 h2 (Some top) (after_insert lt x t) (x ∷ nodes_of t) (insert_in_order lt x (nodes_of t)) g
+    black (grown_red_black lt x t k.red_black) (nodes_of-after_insert strict x t k.ordered)
     (rises_put lt strict.transitive x (nodes_of t) k.ordered p)
-    (λ m i. let out = outside_x m x (nodes_of t) i in put_out lt x (nodes_of t) m out.0 out.1) eh el
+    (λ m i. let out = outside_x m x (nodes_of t) i in put_out lt x (nodes_of t) m out.0 out.1)

@@ -1,7 +1,6 @@
 -- The listing of a tree, from the listings of its two subtrees.
-use Rattle.std.proofs.Common.{◌≡◌, ◌≢◌, ℕ, suc, ◌+◌, ◌-◌, ◌<◌, ◌≤◌, Bool, true, false, not, Option, Some}
-use Rattle.std.proofs.Common.{List, ◌∷◌, ◌++◌, length, set, min, refl, sym, ap, ◌∙◌, arith, inl, inr, length-append}
-use Rattle.std.proofs.Common.{length-set}
+use Rattle.std.proofs.Common.{◌≡◌, ◌≢◌, ℕ, suc, ◌+◌, ◌-◌, ◌<◌, ◌≤◌, Bool, true, false, not, Option, Some, List, ◌∷◌}
+use Rattle.std.proofs.Common.{◌++◌, length, set, min, refl, sym, ap, ◌∙◌, arith, inl, inr, length-append, length-set}
 use Rattle.std.specs.List.{list_all}
 use Rattle.std.proofs.lemmas.Bool.{true≢false, cases_Bool, false_from_ne_true, not_from_false}
 use Rattle.link_tree.specs.Tree.{Cell, Tree, leaf, fork, nodes_of, IsTree, height}
@@ -81,18 +80,18 @@ lists_full before t list count steps full = record {
 }
 
 -- a list that is not full has a place for one more
-pub next_place : (before : ℕ → Bool) (left : Tree) (list row1 : List ℕ) (count count1 n steps steps1 : ℕ)
+pub next_place : {before : ℕ → Bool} {left : Tree} {list row1 : List ℕ} {count count1 : ℕ} (n : ℕ) {steps steps1 : ℕ}
     → Lists before left list count row1 count1 steps steps1 → count1 ≢ length row1
     → count1 + 1 ≤ length (set row1 count1 n)
-next_place before left list row1 count count1 n steps steps1 a more =
+next_place {before = before} {left = left} {list = list} {row1 = row1} {count = count} {count1 = count1} n a more =
     let same : length row1 ≡ length list =
     ap length a.listed ∙ placed_length list count (nodes_from before (nodes_of left)) in
     let same2 : length (set row1 count1 n) ≡ length list = length-set row1 count1 n ∙ same in
     let many = a.many in
     omega arith
 
-module _ (before : ℕ → Bool) (red : Bool) (left : Tree) (n : ℕ) (right : Tree) (list row1 : List ℕ)
-    (count count1 steps steps1 steps2 : ℕ) where
+module _ (before : ℕ → Bool) (red : Bool) (left : Tree) (n : ℕ) (right : Tree) {list row1 : List ℕ}
+    {count count1 : ℕ} (steps : ℕ) {steps1 steps2 : ℕ} where
   -- the node and those to the left of it precede the probe
   pub lists_right : list_all before (nodes_of left) ≡ true → before n ≡ true → steps1 ≤ steps + 1
       → Lists before right list count row1 count1 steps1 steps2
@@ -115,9 +114,9 @@ module _ (before : ℕ → Bool) (red : Bool) (left : Tree) (n : ℕ) (right : T
             omega arith;
       }
 
-  module _ (this : before n ≡ false) (all : list_all (λ m. not (before m)) (nodes_of right) ≡ true)
-      (within : count ≤ length list) (step : steps1 ≤ steps + 1)
-      (a : Lists before left list count row1 count1 steps1 steps2) where
+  module _ (a : Lists before left list count row1 count1 steps1 steps2) (this : before n ≡ false)
+      (all : list_all (λ m. not (before m)) (nodes_of right) ≡ true) (within : count ≤ length list)
+      (step : steps1 ≤ steps + 1) where
     -- the nodes to the left fill the list
     pub lists_stops : count1 ≡ length row1 → Lists before (fork red left n right) list count row1 count1 steps steps2
     lists_stops full =
@@ -146,10 +145,10 @@ module _ (before : ℕ → Bool) (red : Bool) (left : Tree) (n : ℕ) (right : T
         }
 
     -- the nodes to the left, the node and the right tree
-    pub lists_on : (row2 : List ℕ) (count2 steps3 : ℕ) → count1 ≢ length row1
+    pub lists_on : {row2 : List ℕ} {count2 steps3 : ℕ} → count1 ≢ length row1
         → Lists (λ _. false) right (set row1 count1 n) (count1 + 1) row2 count2 steps2 steps3
         → Lists before (fork red left n right) list count row2 count2 steps steps3
-    lists_on row2 count2 steps3 more b =
+    lists_on {row2 = row2} {count2 = count2} {steps3 = steps3} more b =
         let l = nodes_of left in
         let f = nodes_from before l in
         let r = nodes_of right in

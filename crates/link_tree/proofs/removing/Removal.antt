@@ -14,15 +14,12 @@ use Rattle.link_tree.specs.Shrinking.{without_root, after_remove}
 use Rattle.link_tree.specs.declared.cursor.Side.{Side}
 use Rattle.link_tree.specs.declared.cursor.Side.TheVariants.{Left, Right}
 use Rattle.link_tree.proofs.trees.OrderedLists.{IsStrict, rises_split, all_at, all_from, is_in-append, in_left}
-use Rattle.link_tree.proofs.trees.OrderedLists.{in_right, not_left}
-use Rattle.link_tree.proofs.trees.OrderedLists.{not_right}
+use Rattle.link_tree.proofs.trees.OrderedLists.{in_right, not_left, not_right}
 use Rattle.link_tree.proofs.trees.OneSided.{fork_joined, joined_opposite, nodes_of-joined, nodes_of-joined_far}
 use Rattle.link_tree.proofs.trees.OneSided.{nodes_of-painted, nodes_of-turn}
 use Rattle.link_tree.proofs.trees.BlackHeights.{blackened_red_black, even_tree, IsEven, IsNearlyEven, black_join}
-use Rattle.link_tree.proofs.trees.BlackHeights.{black_root_join}
-use Rattle.link_tree.proofs.trees.BlackHeights.{red_join, rebalanced_even, nearly_even, under_red, sides_of_red}
-use Rattle.link_tree.proofs.trees.BlackHeights.{even_fork}
-use Rattle.link_tree.proofs.trees.BlackHeights.{blackened_even, blackened_root}
+use Rattle.link_tree.proofs.trees.BlackHeights.{black_root_join, red_join, rebalanced_even, nearly_even, under_red}
+use Rattle.link_tree.proofs.trees.BlackHeights.{sides_of_red, even_fork, blackened_even, blackened_root}
 use Rattle.link_tree.proofs.inserting.Insertion.{nodes_of-rebalanced}
 use Rattle.std.proofs.lemmas.List.{append-nil}
 

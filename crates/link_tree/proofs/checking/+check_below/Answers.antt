@@ -11,8 +11,7 @@ use Rattle.link_tree.proofs.checking.Soundness.{part_size}
 use Rattle.link_tree.proofs.trees.NodeLaws.{strict}
 use Rattle.link_tree.proofs.checking.+check_below.Goals as goal
 use Rattle.link_tree.proofs.checking.+check_below.Goals.{After-red-red, After-child-right}
-use Rattle.link_tree.proofs.checking.+check_below.Goals.{else-red-via-then-red+else-red_above}
-use Rattle.link_tree.proofs.checking.+check_below.Goals.{else-red-via-else-red}
+use Rattle.link_tree.proofs.checking.+check_below.Goals.{else-red-via-then-red+else-red_above, else-red-via-else-red}
 use Rattle.link_tree.proofs.checking.+check_below.Given.{Over}
 
 -- ---- arithmetic: `a` steps before, `b` once the node is read, `d` and `e` after its parts
@@ -45,9 +44,6 @@ fits_nodes a k k' A B C few parts room = omega arith
 
 fits_less : (k : ℕ) → Fits w64 (k + 1) → Fits w64 k
 fits_less k h = omega arith
-
-sum_most : (a b c d : ℕ) → a ≤ c → b ≤ d → a + b ≤ c + d
-sum_most a b c d p q = omega arith
 
 lower_than : (h u l : ℕ) → h + 1 ≤ u → u ≤ l → h ≤ l - 1
 lower_than h u l below most = omega arith
@@ -175,31 +171,30 @@ module _ {g : Over} {s : g.row.N.Denot} {link : Option ℕ} {n : ℕ} {low high 
         (node, (good_high, (room.0, room.1, (closed_on room.0 room.1 room.2).1, fits))),
       )
 
-  found_on : (part part' from to : Option ℕ) (b k : ℕ) → part ≡ part'
+  found_on : {part part' from to : Option ℕ} {b k : ℕ} → part ≡ part'
       → Found g s part from to red b k → Found g s part' from to (g.N.Nodes.cells s n).red b k
-  found_on part part' from to b k is w = rw (is, r.red_is) at w
+  found_on is w = rw (is, r.red_is) at w
 
-  finds_on : (part part' from to : Option ℕ) (levels : ℕ) (found : Bool) → part ≡ part'
+  finds_on : {part part' from to : Option ℕ} {levels : ℕ} {found : Bool} → part ≡ part'
       → Finds g s part from to red levels found → Finds g s part' from to (g.N.Nodes.cells s n).red levels found
-  finds_on part part' from to levels found is finds = rw (is, r.red_is) at finds
+  finds_on is finds = rw (is, r.red_is) at finds
 
-  spent_on : (part part' from to : Option ℕ) (ns : List ℕ) (end' end'' : ℕ) (found is : Bool)
-      → part ≡ part' → IsLinkClosed (g.N.Nodes.cells s) ns → leads (λ m. is_in m ns) part' ≡ true
+  spent_on : {part part' : Option ℕ} (from to : Option ℕ) (ns : List ℕ) (end' : ℕ) {end'' : ℕ} {found : Bool}
+      (is : Bool) → part ≡ part' → IsLinkClosed (g.N.Nodes.cells s) ns → leads (λ m. is_in m ns) part' ≡ true
       → found ≡ is → Spends g s part from to end' end'' found
       → end'' ≤ end' + 5 * count g s from to ns + (if is then 0 else 5)
-  spent_on part part' from to ns end' end'' found is p closed k f told =
+  spent_on from to ns end' is p closed k f told =
       let here = rw (p, f) at told in here ns closed k
 
-  spent_both : (ns : List ℕ) (end' end'' : ℕ) (found found' is : Bool)
+  spent_both : (ns : List ℕ) (end' : ℕ) {end'' : ℕ} {found found' : Bool} (is : Bool)
       → IsLinkClosed (g.N.Nodes.cells s) ns → leads (λ m. is_in m ns) link ≡ true → found ≡ true
       → found' ≡ is → Spends g s left low (Some n) end end' found
       → Spends g s right (Some n) high end' end'' found'
       → end'' ≤ start + 5 * count g s low high ns + (if is then 0 else 5)
-  spent_both ns end' end'' found found' is closed k f f' told told' =
+  spent_both ns end' is closed k f f' told told' =
       let c = closed_on ns closed k in
-      steps_right _ _ _ _ _ _ _ _ r.few (spent_on left _ low (Some n) ns end end' found true r.left_is closed
-      c.0 f told)
-      (spent_on right _ (Some n) high ns end' end'' found' is r.right_is closed c.1 f' told') (split ns k)
+      steps_right _ _ _ _ _ _ _ _ r.few (spent_on low (Some n) ns end true r.left_is closed c.0 f told)
+      (spent_on (Some n) high ns end' is r.right_is closed c.1 f' told') (split ns k)
 
   -- two parts have no more nodes than the closed list has on both sides of the node
   sizes : (ns : List ℕ) (b b' k k' : ℕ) → IsLinkClosed (g.N.Nodes.cells s) ns → leads (λ m. is_in m ns) link ≡ true
@@ -212,7 +207,7 @@ module _ {g : Over} {s : g.row.N.Denot} {link : Option ℕ} {n : ℕ} {low high 
       (Some n) (h n).red before.0 b (closed_on ns closed l).0 before.1 in
       let size' = part_size (strict g.met.N.Nodes s) h ns closed (h n).right
       (Some n) high (h n).red behind.0 b' (closed_on ns closed l).1 behind.1 in
-      rw (← before.2, ← behind.2) (sum_most _ _ _ _ size size')
+      rw (← before.2, ← behind.2) (omega (arith, size, size'))
 
   -- two parts and the node between them
   joined : (red_above : Bool) (b b' k k' level : ℕ)
@@ -282,15 +277,14 @@ pub returns-in_default-check_below-clause-complete : goal.returns-in_default-che
 returns-in_default-check_below-clause-complete g t c = λ u b k lower.
     let r = read g t (goal.at.returns-in_default-check_below-clause-complete g t c).After-child-right in
     let p = parts r c.args.red_above u b k in
-    let finds = finds_on r _ _ _ _ _ _ r.left_is c.check_below.ensures.complete in
+    let finds = finds_on r r.left_is c.check_below.ensures.complete in
     sym (ap is_some c.in_default-check_below.is)
     ∙ finds p.left p.level p.left_sound (lower_than _ _ _ p.left_lower lower)
 
 pub returns-in_default-check_below-clause-steps : goal.returns-in_default-check_below-clause-steps
 returns-in_default-check_below-clause-steps g t c = λ ns closed k.
     let r = read g t (goal.at.returns-in_default-check_below-clause-steps g t c).After-child-right in
-    let first = spent_on r _ _ c.args.low (Some c.in-Some.node) ns _ _ _ false r.left_is closed
-    (closed_on r ns closed k).0
+    let first = spent_on r c.args.low (Some c.in-Some.node) ns _ false r.left_is closed (closed_on r ns closed k).0
     (ap is_some c.in_default-check_below.is) c.check_below.ensures.steps in
     steps_left _ _ _ _ _ _ r.few first (split r ns k)
 
@@ -300,8 +294,7 @@ check_below-requires-2 g t c =
     let ns = c.requires.no_overflow.0 in
     let closed = c.requires.no_overflow.1 in
     let k = c.requires.no_overflow.2 in
-    let first = spent_on r _ _ c.args.low (Some c.in-Some.node) ns _ _ _ true r.left_is closed
-    (closed_on r ns closed k).0
+    let first = spent_on r c.args.low (Some c.in-Some.node) ns _ true r.left_is closed (closed_on r ns closed k).0
     (ap is_some c.in-Some-check_below.is) c.check_below.ensures.steps in
     let asked = asked_right r c.check_below.new.visits.steps c.requires.link c.requires.max_value
     c.requires.no_overflow first in
@@ -312,14 +305,14 @@ pub returns-in_default-check_below-2-clause-complete : goal.returns-in_default-c
 returns-in_default-check_below-2-clause-complete g t c = λ u b k lower.
     let r = read g t (goal.at.returns-in_default-check_below-2-clause-complete g t c).After-child-right in
     let p = parts r c.args.red_above u b k in
-    let finds = finds_on r _ _ _ _ _ _ r.right_is c.check_below-2.ensures.complete in
+    let finds = finds_on r r.right_is c.check_below-2.ensures.complete in
     sym (ap is_some c.in_default-check_below-2.is)
     ∙ finds p.right p.level p.right_sound (lower_than _ _ _ p.right_lower lower)
 
 pub returns-in_default-check_below-2-clause-steps : goal.returns-in_default-check_below-2-clause-steps
 returns-in_default-check_below-2-clause-steps g t c = λ ns closed k.
     let r = read g t (goal.at.returns-in_default-check_below-2-clause-steps g t c).After-child-right in
-    spent_both r ns _ _ _ _ false closed k (ap is_some c.in-Some-check_below.is)
+    spent_both r ns _ false closed k (ap is_some c.in-Some-check_below.is)
     (ap is_some c.in_default-check_below-2.is) c.check_below.ensures.steps c.check_below-2.ensures.steps
 
 pub returns-then-before-behind-clause-complete : goal.returns-then-before-behind-clause-complete
@@ -328,8 +321,8 @@ returns-then-before-behind-clause-complete g t c = λ u b k lower.
     let s = c.args.nodes.now in
     let h = g.N.Nodes.cells s in
     let node = c.in-Some.node in
-    let before = found_on r _ _ _ _ _ _ r.left_is c.in-Some-check_below.ensures.sound in
-    let behind = found_on r _ _ _ _ _ _ r.right_is c.in-Some-check_below-2.ensures.sound in
+    let before = found_on r r.left_is c.in-Some-check_below.ensures.sound in
+    let behind = found_on r r.right_is c.in-Some-check_below-2.ensures.sound in
     let p = parts r c.args.red_above u b k in
     let same1 = one_height (strict g.met.N.Nodes s) h
     (h node).left c.args.low (Some node) c.args.low (Some node) (h node).red (h node).red before.0 p.left _ p.level
@@ -342,14 +335,14 @@ returns-then-before-behind-clause-complete g t c = λ u b k lower.
 pub returns-then-before-behind-clause-steps : goal.returns-then-before-behind-clause-steps
 returns-then-before-behind-clause-steps g t c = λ ns closed k.
     let r = read g t (goal.at.returns-then-before-behind-clause-steps g t c).After-child-right in
-    more _ _ (spent_both r ns _ _ _ _ true closed k (ap is_some c.in-Some-check_below.is)
+    more _ _ (spent_both r ns _ true closed k (ap is_some c.in-Some-check_below.is)
     (ap is_some c.in-Some-check_below-2.is) c.check_below.ensures.steps c.check_below-2.ensures.steps)
 
 pub overflow_add-count : goal.overflow_add-count
 overflow_add-count g t c =
     let r = read g t (goal.at.overflow_add-count g t c).After-child-right in
-    let before = found_on r _ _ _ _ _ _ r.left_is c.in-Some-check_below.ensures.sound in
-    let behind = found_on r _ _ _ _ _ _ r.right_is c.in-Some-check_below-2.ensures.sound in
+    let before = found_on r r.left_is c.in-Some-check_below.ensures.sound in
+    let behind = found_on r r.right_is c.in-Some-check_below-2.ensures.sound in
     let few = sizes r c.requires.no_overflow.0 _ _ _ _ c.requires.no_overflow.1 c.requires.no_overflow.2 before
     behind in
     fits_less _ (fits_nodes _ _ _ _ _ _ few (split r c.requires.no_overflow.0 c.requires.no_overflow.2)
@@ -358,8 +351,8 @@ overflow_add-count g t c =
 pub overflow_add-count-2 : goal.overflow_add-count-2
 overflow_add-count-2 g t c =
     let r = read g t (goal.at.overflow_add-count-2 g t c).After-child-right in
-    let before = found_on r _ _ _ _ _ _ r.left_is c.in-Some-check_below.ensures.sound in
-    let behind = found_on r _ _ _ _ _ _ r.right_is c.in-Some-check_below-2.ensures.sound in
+    let before = found_on r r.left_is c.in-Some-check_below.ensures.sound in
+    let behind = found_on r r.right_is c.in-Some-check_below-2.ensures.sound in
     let few = sizes r c.requires.no_overflow.0 _ _ _ _ c.requires.no_overflow.1 c.requires.no_overflow.2 before
     behind in
     fits_nodes _ _ _ _ _ _ few (split r c.requires.no_overflow.0 c.requires.no_overflow.2) c.requires.no_overflow.3
@@ -367,8 +360,8 @@ overflow_add-count-2 g t c =
 pub returns-then-red-2-clause-sound : goal.returns-then-red-2-clause-sound
 returns-then-red-2-clause-sound g t c =
     let r = read g t (goal.at.returns-then-red-2-clause-sound g t c).After-child-right in
-    let before = found_on r _ _ _ _ _ _ r.left_is c.in-Some-check_below.ensures.sound in
-    let behind = found_on r _ _ _ _ _ _ r.right_is c.in-Some-check_below-2.ensures.sound in
+    let before = found_on r r.left_is c.in-Some-check_below.ensures.sound in
+    let behind = found_on r r.right_is c.in-Some-check_below-2.ensures.sound in
     joined r c.args.red_above _ _ _ _ _ before behind c.if-before-behind.false
     (λ x y. elim c.else-red.branch as (λ _. ⊥) [
       | else-red-via-then-red+else-red_above w ↦ true≢false (sym y ∙ w.if-red_above.false)
@@ -378,8 +371,8 @@ returns-then-red-2-clause-sound g t c =
 pub returns-clause-sound : goal.returns-clause-sound
 returns-clause-sound g t c =
     let r = read g t (goal.at.returns-clause-sound g t c).After-child-right in
-    let before = found_on r _ _ _ _ _ _ r.left_is c.in-Some-check_below.ensures.sound in
-    let behind = found_on r _ _ _ _ _ _ r.right_is c.in-Some-check_below-2.ensures.sound in
+    let before = found_on r r.left_is c.in-Some-check_below.ensures.sound in
+    let behind = found_on r r.right_is c.in-Some-check_below-2.ensures.sound in
     joined r c.args.red_above _ _ _ _ _ before behind c.if-before-behind.false
     (λ x y. elim c.else-red.branch as (λ _. ⊥) [
       | else-red-via-then-red+else-red_above w ↦ true≢false (sym y ∙ w.if-red_above.false)
@@ -389,11 +382,11 @@ returns-clause-sound g t c =
 pub returns-then-red-2-clause-steps : goal.returns-then-red-2-clause-steps
 returns-then-red-2-clause-steps g t c = λ ns closed k.
     let r = read g t (goal.at.returns-then-red-2-clause-steps g t c).After-child-right in
-    spent_both r ns _ _ _ _ true closed k (ap is_some c.in-Some-check_below.is)
+    spent_both r ns _ true closed k (ap is_some c.in-Some-check_below.is)
     (ap is_some c.in-Some-check_below-2.is) c.check_below.ensures.steps c.check_below-2.ensures.steps
 
 pub returns-clause-steps : goal.returns-clause-steps
 returns-clause-steps g t c = λ ns closed k.
     let r = read g t (goal.at.returns-clause-steps g t c).After-child-right in
-    spent_both r ns _ _ _ _ true closed k (ap is_some c.in-Some-check_below.is)
+    spent_both r ns _ true closed k (ap is_some c.in-Some-check_below.is)
     (ap is_some c.in-Some-check_below-2.is) c.check_below.ensures.steps c.check_below-2.ensures.steps

@@ -1,4 +1,4 @@
-use Rattle.std.proofs.Common.{◌≡◌, ℕ, ◌+◌, Bool, true, false, Option, Some, ◌∙◌, arith, refl}
+use Rattle.std.proofs.Common.{◌≡◌, ℕ, ◌+◌, Bool, true, false, Option, Some, arith, refl}
 use Rattle.link_tree.specs.Tree.{Tree, IsSearchTree}
 use Rattle.link_tree.specs.Sides.{child_of}
 use Rattle.link_tree.proofs.trees.Heights.{bounds_height}
@@ -86,7 +86,7 @@ pub returns-clause-steps : goal.returns-clause-steps
 returns-clause-steps g c = λ t k.
     let taken = (c.loop-link.invariant.seeks t k).taken in
     let low = bounds_height t k.red_black in
-    omega (arith, c.steps.ensures)
+    omega arith
 
 pub returns-clause-steps_exact : goal.returns-clause-steps_exact
-returns-clause-steps_exact g c = λ t k. c.steps.ensures ∙ (seek_end _ _ _ _ (cc) (c.loop-link.invariant.seeks t k)).1
+returns-clause-steps_exact g c = λ t k. (seek_end _ _ _ _ (cc) (c.loop-link.invariant.seeks t k)).1

@@ -1,11 +1,10 @@
-use Rattle.std.proofs.Common.{◌≡◌, ℕ, Bool, true, not, ◌∷◌, Option, Some, arith, refl, sym, ap, ◌∙◌, subst}
+use Rattle.std.proofs.Common.{◌≡◌, ℕ, true, not, ◌∷◌, Option, Some, arith, refl, sym, ap, ◌∙◌, subst}
 use Rattle.std.specs.Prelude.{IfSome, IsTrue}
-use Rattle.link_tree.specs.Tree.{Tree, IsTree, IsSearchTree, nodes_of, is_sorted}
+use Rattle.link_tree.specs.Tree.{Tree, IsSearchTree, nodes_of}
 use Rattle.link_tree.specs.Nodes.{is_ordered_with, insert_in_order, leads}
-use Rattle.link_tree.specs.Sides.{child_of, side_of, with_child}
+use Rattle.link_tree.specs.Sides.{side_of, with_child}
 use Rattle.link_tree.specs.declared.cursor.Side.{Side}
-use Rattle.link_tree.specs.Turning.{BecomesTree, blackened}
-use Rattle.link_tree.specs.Growing.{CanInsert, after_insert}
+use Rattle.link_tree.specs.Growing.{CanInsert}
 use Rattle.link_tree.specs.Ways.{insert_point_of}
 use Rattle.link_tree.proofs.trees.Linked.{IsChanged, one_tree, root_in}
 use Rattle.link_tree.proofs.trees.Heights.{height_bits}
@@ -13,7 +12,7 @@ use Rattle.link_tree.proofs.trees.NodeLaws.{low_tree, node_of, strict}
 use Rattle.link_tree.proofs.inserting.Insertion.{frame_beside, grow_step, GrowsBelow, grows_below, inserted, laid}
 use Rattle.link_tree.proofs.inserting.EntryPoint.{IsBegun, begun_whole, entered, grows_begun, steady}
 use Rattle.link_tree.proofs.insertion.insert_at.Goals as goal
-use Rattle.link_tree.proofs.insertion.insert_at.Goals.{After-set_child}
+use Rattle.link_tree.proofs.insertion.insert_at.Goals.{After-set_child, After-paint}
 use Rattle.link_tree.proofs.insertion.insert_at.Given.{Over}
 
 -- the conditions of the call
@@ -120,8 +119,8 @@ entered_at g c u k =
     let place = (grows g s c.args.root c.args.entry x c.requires.tree u k).placed in
     let new = grow_step all side h h1 h2 h2 x p child p b.begins.below refl
     (grows_begun all h x u p place b) grow set (steady all h x side h2 p (λ v w. b.next v w.tree)) in
-    entered all h x _ h2 h2 c.args.root p u p k place b new refl
-    (c.set_child.ensures.keeper.order ∙ c.insert_behind-child.ensures.keeper.order)
+    rw (c.set_child.ensures.keeper.order ∙ c.insert_behind-child.ensures.keeper.order)
+    (entered all h x h2 c.args.root p u p k place b new)
 
 pub returns-in-Some-clause-tree : goal.returns-in-Some-clause-tree
 returns-in-Some-clause-tree g c = λ u k.
@@ -142,12 +141,12 @@ returns-in-Some-clause-steps g c = λ u k.
     let last = c.set_child.ensures.steps_upper in
     let lower = b.begins.lower in
     let lower' = f.lower in
-    omega (arith, c.steps.ensures, steps f.tree f.grows, c.new-visits.ensures.steps, height_bits u k.red_black)
+    omega (arith, steps f.tree f.grows, c.new-visits.ensures.steps, height_bits u k.red_black)
 
 pub returns-in_default-root-clause-tree : goal.returns-in_default-root-clause-tree
 returns-in_default-root-clause-tree g c = λ u k.
-    (laid _ (g.N.Nodes.cells c.args.nodes.now) (g.N.Nodes.cells c.make_leaf.new.nodes) _ c.args.root
-    c.args.node u c.in_default-root.is k c.make_leaf.ensures.layout refl).tree
+    (laid _ (g.N.Nodes.cells c.args.nodes.now) (g.N.Nodes.cells c.make_leaf.new.nodes) c.args.root c.args.node u
+    c.in_default-root.is k c.make_leaf.ensures.layout).tree
 
 pub insert_below-risen-requires-clause-tree : goal.insert_below-risen-requires-clause-tree
 insert_below-risen-requires-clause-tree g c =
@@ -168,44 +167,30 @@ paint-requires-clause-no_overflow g c =
     omega (arith, steps t.0 (grows g s c.args.root c.args.entry c.args.node t t.0 t.1))
 
 -- the result of an insertion below the root
-inserted_at : (g : Over) (s s' s'' : g.row.N.Denot) (root entry : Option ℕ) (x top : ℕ) → Asked g s root entry x
-    → ((v : Tree) → CanInsert (g.N.Nodes.order s) (g.N.Nodes.cells s) root x v
-    → BecomesTree (g.N.Nodes.cells s) (g.N.Nodes.cells s') (x ∷ nodes_of v) (Some top)
-    (after_insert (g.N.Nodes.order s) x v))
-    → g.N.Nodes.order s' ≡ g.N.Nodes.order s
-    → ((v : Tree) → IsTree (g.N.Nodes.cells s') (Some top) v → is_sorted (g.N.Nodes.order s') (nodes_of v) ≡ true
-    → BecomesTree (g.N.Nodes.cells s') (g.N.Nodes.cells s'') (nodes_of v) (Some top) (blackened v))
-    → g.N.Nodes.order s'' ≡ g.N.Nodes.order s' → (u : Tree)
-    → IsSearchTree (g.N.Nodes.order s) (g.N.Nodes.cells s) root u
-    → IsChanged (g.N.Nodes.order s'') (g.N.Nodes.cells s) (g.N.Nodes.cells s'') (Some top) (x ∷ nodes_of u)
-    (insert_in_order (g.N.Nodes.order s) x (nodes_of u))
-inserted_at g s s' s'' root entry x top asked grow eo blacken eo' u k =
-    let w = grows g s root entry x asked u k in
-    let black = rw eo at blacken in
-    inserted (strict g.met.N.Nodes s) _ (g.N.Nodes.cells s) (g.N.Nodes.cells s') (g.N.Nodes.cells s'') _ root x top u
-    k w.placed (grow u w) black refl (eo' ∙ eo)
+inserted_at : (g : Over) (c : After-paint g) (u : Tree)
+    → IsSearchTree (g.N.Nodes.order c.args.nodes.now) (g.N.Nodes.cells c.args.nodes.now) c.args.root u
+    → IsChanged (g.N.Nodes.order c.paint.new.nodes) (g.N.Nodes.cells c.args.nodes.now)
+    (g.N.Nodes.cells c.paint.new.nodes) (Some c.insert_below-risen.result) (c.args.node ∷ nodes_of u)
+    (insert_in_order (g.N.Nodes.order c.args.nodes.now) c.args.node (nodes_of u))
+inserted_at g c u k =
+    let s = c.args.nodes.now in
+    let w = grows g s c.args.root c.args.entry c.args.node c.requires.tree u k in
+    let eo = c.insert_below-risen.ensures.keeper.order in
+    let grow = rw (sym c.in-Some-root.is) at c.insert_below-risen.ensures.growth in
+    let black = rw eo at c.paint.ensures.colour in
+    rw (c.paint.ensures.keeper.order ∙ eo) (inserted (strict g.met.N.Nodes s) (g.N.Nodes.cells s)
+    (g.N.Nodes.cells c.insert_below-risen.new.nodes) (g.N.Nodes.cells c.paint.new.nodes) c.args.root c.args.node
+    c.insert_below-risen.result u k w.placed (grow u w) black)
 
 pub returns-clause-tree : goal.returns-clause-tree
-returns-clause-tree g c = λ u k.
-    let grow = rw (sym c.in-Some-root.is) at c.insert_below-risen.ensures.growth in
-    (inserted_at g c.args.nodes.now c.insert_below-risen.new.nodes c.paint.new.nodes c.args.root
-    c.args.entry c.args.node c.insert_below-risen.result c.requires.tree grow c.insert_below-risen.ensures.keeper.order
-    c.paint.ensures.colour c.paint.ensures.keeper.order u k).tree
+returns-clause-tree g c = λ u k. (inserted_at g (goal.at.returns-clause-tree g c).After-paint u k).tree
 
 pub returns-clause-frame : goal.returns-clause-frame
-returns-clause-frame g c = λ u k.
-    let grow = rw (sym c.in-Some-root.is) at c.insert_below-risen.ensures.growth in
-    frame_beside (inserted_at g c.args.nodes.now c.insert_below-risen.new.nodes c.paint.new.nodes c.args.root
-    c.args.entry c.args.node c.insert_below-risen.result c.requires.tree grow c.insert_below-risen.ensures.keeper.order
-    c.paint.ensures.colour c.paint.ensures.keeper.order u k)
+returns-clause-frame g c = λ u k. frame_beside (inserted_at g (goal.at.returns-clause-frame g c).After-paint u k)
 
 pub returns-clause-steps : goal.returns-clause-steps
 returns-clause-steps g c = λ u k.
     let s = c.args.nodes.now in
     let steps = rw (sym c.in-Some-root.is) at c.insert_below-risen.ensures.steps in
-    omega (
-      arith,
-      c.steps-2.ensures,
-      steps u (grows g s c.args.root c.args.entry c.args.node c.requires.tree u k),
-      height_bits u k.red_black,
-    )
+    let few = steps u (grows g s c.args.root c.args.entry c.args.node c.requires.tree u k) in
+    omega (arith, few, height_bits u k.red_black)

@@ -42,10 +42,9 @@ pub returns-then-listed-list-clause-listing : goal.returns-then-listed-list-clau
 returns-then-listed-list-clause-listing g t c = λ u a.
     let r = (goal.at.returns-then-listed-list-clause-listing g t c).After-child-right in
     let p = parts g t r u a in
-    rw p.is (lists_stops (λ _. false) _ p.left c.in-Some.node p.right c.args.list.now c.list_below-listed.new.list
-    c.args.count c.list_below-listed.result c.args.visits.now.steps c.child-right.new.self.steps
-    c.list_below-listed.new.visits.steps refl (p.right_from refl) c.requires.count (few g t r)
-    (c.list_below-listed.ensures.listing p.left p.left_below) c.if-listed-list.true)
+    rw p.is (lists_stops (λ _. false) _ p.left c.in-Some.node p.right c.args.visits.now.steps
+    (c.list_below-listed.ensures.listing p.left p.left_below) refl (p.right_from refl) c.requires.count (few g t r)
+    c.if-listed-list.true)
 
 pub list_below-requires : goal.list_below-requires
 list_below-requires g t c κs within =
@@ -57,9 +56,7 @@ list_below-requires g t c κs within =
     let positive = p.positive in
     let listed = c.list_below-listed.ensures.listing p.left p.left_below in
     let visited = listed.visited in
-    let next = next_place (λ _. false) p.left c.args.list.now c.list_below-listed.new.list c.args.count
-    c.list_below-listed.result c.in-Some.node c.child-right.new.self.steps c.list_below-listed.new.visits.steps listed
-    c.if-listed-list.false in (
+    let next = next_place c.in-Some.node listed c.if-listed-list.false in (
       omega (arith, c.decreases),
       (search rules, (search rules, (search rules, (next, (p.right, p.right_below, omega arith))))),
     )
@@ -68,9 +65,7 @@ pub returns-clause-listing : goal.returns-clause-listing
 returns-clause-listing g t c = λ u a.
     let r = (goal.at.returns-clause-listing g t c).After-child-right in
     let p = parts g t r u a in
-    rw p.is (lists_on (λ _. false) _ p.left c.in-Some.node p.right c.args.list.now c.list_below-listed.new.list
-    c.args.count c.list_below-listed.result c.args.visits.now.steps c.child-right.new.self.steps
-    c.list_below-listed.new.visits.steps refl (p.right_from refl) c.requires.count (few g t r)
-    (c.list_below-listed.ensures.listing p.left p.left_below) c.list_below.new.list c.list_below.result
-    c.list_below.new.visits.steps c.if-listed-list.false
+    rw p.is (lists_on (λ _. false) _ p.left c.in-Some.node p.right c.args.visits.now.steps
+    (c.list_below-listed.ensures.listing p.left p.left_below) refl (p.right_from refl) c.requires.count (few g t r)
+    c.if-listed-list.false
     (c.list_below.ensures.listing p.right p.right_below))

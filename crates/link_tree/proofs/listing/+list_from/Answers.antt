@@ -42,8 +42,7 @@ returns-then-before-clause-listing g t c = λ u a.
     let p = parts g t r _ u refl a in
     let this : test c.in-Some.node ≡ true = sym c.before_probe-before.ensures.value ∙ c.if-before.true in
     let listed = c.list_from.ensures.listing p.right p.right_below in
-    rw p.is (lists_right test _ p.left c.in-Some.node p.right c.args.list.now c.list_from.new.list 0 c.list_from.result
-    c.args.visits.now.steps c.child-right.new.self.steps c.list_from.new.visits.steps (p.left_before this) this
+    rw p.is (lists_right test _ p.left c.in-Some.node p.right c.args.visits.now.steps (p.left_before this) this
     (few g t r) listed)
 
 pub list_from-listed-requires : goal.list_from-listed-requires
@@ -68,9 +67,8 @@ returns-then-listed-list-clause-listing g t c = λ u a.
     let step = few g t r in
     let stays = c.child-left.ensures.unchanged c.child-right.ensures.position in
     let listed = c.list_from-listed.ensures.listing p.left p.left_below in
-    rw p.is (lists_stops test _ p.left c.in-Some.node p.right c.args.list.now c.list_from-listed.new.list 0
-    c.list_from-listed.result c.args.visits.now.steps c.child-left.new.self.steps c.list_from-listed.new.visits.steps
-    this (p.right_from this) (omega arith) (omega arith) listed c.if-listed-list.true)
+    rw p.is (lists_stops test _ p.left c.in-Some.node p.right c.args.visits.now.steps listed this (p.right_from this)
+    (omega arith) (omega arith) c.if-listed-list.true)
 
 pub list_below-requires-clause-tree : goal.list_below-requires-clause-tree
 list_below-requires-clause-tree g t c =
@@ -92,8 +90,5 @@ returns-clause-listing g t c = λ u a.
     let step = few g t r in
     let stays = c.child-left.ensures.unchanged c.child-right.ensures.position in
     let listed = c.list_from-listed.ensures.listing p.left p.left_below in
-    rw p.is (lists_on test _ p.left c.in-Some.node p.right c.args.list.now c.list_from-listed.new.list 0
-    c.list_from-listed.result c.args.visits.now.steps c.child-left.new.self.steps c.list_from-listed.new.visits.steps
-    this (p.right_from this) (omega arith) (omega arith) listed c.list_below.new.list c.list_below.result
-    c.list_below.new.visits.steps c.if-listed-list.false
-    (c.list_below.ensures.listing p.right p.right_below))
+    rw p.is (lists_on test _ p.left c.in-Some.node p.right c.args.visits.now.steps listed this (p.right_from this)
+    (omega arith) (omega arith) c.if-listed-list.false (c.list_below.ensures.listing p.right p.right_below))

@@ -42,7 +42,6 @@ returns-clause-steps g c = λ t k.
     let s = c.args.nodes.now in
     let path = (c.list_from-count.ensures.listing t (below g s c.args.root t k c.requires.root)).path in
     let zero = c.new-visits.ensures.steps in
-    let told = c.steps.ensures in
     let high = bounds_height t k.red_black in
     let skips = skipped_height (g.N.Nodes.before s c.args.probe.now) t in
     omega arith

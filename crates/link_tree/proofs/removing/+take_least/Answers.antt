@@ -1,4 +1,4 @@
-use Rattle.std.proofs.Common.{refl, ◌≡◌, ℕ, ◌+◌, ◌*◌, ◌<◌, ◌^◌, Some, sym, ◌∙◌, arith, rules}
+use Rattle.std.proofs.Common.{refl, ◌≡◌, ◌≢◌, ℕ, ◌+◌, ◌*◌, ◌<◌, ◌^◌, Some, sym, ◌∙◌, arith, rules}
 use Rattle.link_tree.specs.Tree.{Tree, height}
 use Rattle.link_tree.specs.Shrinking.{IsOrderedTree, without_least}
 use Rattle.link_tree.proofs.trees.Linked.{some_same}
@@ -27,22 +27,9 @@ take_least-below-requires g t c =
     let b = below g s c.args.at left c.requires.tree.0 c.requires.tree.1 (sym c.child.ensures.value ∙ c.in-Some.is) in
     let tree : (u : Tree) × IsOrderedTree (g.N.Nodes.order s) (g.N.Nodes.cells s) (Some left) u
     × (c.child.new.self.steps + 14 * height u + 40 < 2 ^ 64) = (b.tree, b.shrinks, omega arith) in
-    λ κs lives. (
-      omega (arith, c.decreases),
-      (
-        search rules,
-        (
-          search rules,
-          (
-            search rules,
-            (
-              λ k. b.apart (some_same left c.args.at (sym k ∙ c.child.ensures.position)),
-              tree,
-            ),
-          ),
-        ),
-      ),
-    )
+    let away : c.child.new.self.at ≢ Some left =
+    λ k. b.apart (some_same left c.args.at (sym k ∙ c.child.ensures.position)) in
+    λ κs lives. (omega (arith, c.decreases), (search rules, (search rules, (search rules, (away, tree)))))
 
 pub settle-requires-clause-no_overflow : goal.settle-requires-clause-no_overflow
 settle-requires-clause-no_overflow g t c =

@@ -1,4 +1,4 @@
-use Rattle.std.proofs.Common.{◌≡◌, ℕ, Bool, List, Option, Some, arith, refl, subst, ◌∙◌}
+use Rattle.std.proofs.Common.{◌≡◌, ℕ, Bool, List, Option, Some, arith, subst, ◌∙◌}
 use Rattle.std.specs.Prelude.{IfSome}
 use Rattle.link_tree.specs.Tree.{Cell, Tree, IsSearchTree, nodes_of}
 use Rattle.link_tree.specs.Nodes.{without}
@@ -67,9 +67,9 @@ left_at g c u k =
     let t = c.requires.tree in
     let s = c.args.nodes.now in
     let b = begins g s c.args.root c.args.exit c.args.node _ t.0 u t.1 t.3 c.in-Some.is k in
-    left (strict g.met.N.Nodes s) (g.N.Nodes.cells s) c.args.node _ (g.N.Nodes.cells c.cut.new.nodes) _
-    c.args.root c.cut.result.root c.cut.result.fell u c.in-Some.start k b
-    (c.cut.ensures.rest b.begins.below (below_of b.begins)) refl c.cut.ensures.keeper.order
+    rw c.cut.ensures.keeper.order (left (strict g.met.N.Nodes s) (g.N.Nodes.cells s) c.args.node
+    (g.N.Nodes.cells c.cut.new.nodes) c.args.root c.cut.result.root c.cut.result.fell u c.in-Some.start k b
+    (c.cut.ensures.rest b.begins.below (below_of b.begins)))
 
 pub returns-in-Some-clause-tree : goal.returns-in-Some-clause-tree
 returns-in-Some-clause-tree g c = λ u k. (left_at g (goal.at.returns-in-Some-clause-tree g c).After-cut u k).tree
@@ -85,7 +85,6 @@ returns-in-Some-clause-steps g c = λ u k.
     let steps = c.cut.ensures.steps in
     omega (
       arith,
-      c.steps.ensures,
       steps b.begins.below (below_of b.begins),
       b.begins.lower,
       c.new-visits.ensures.steps,
@@ -123,10 +122,9 @@ removed_at g c u k =
     let s = c.args.nodes.now in
     let eo = c.cut-rest.ensures.keeper.order in
     let black = rw eo at c.paint.ensures.colour in
-    removed (strict g.met.N.Nodes s) _ (g.N.Nodes.cells s) (g.N.Nodes.cells c.cut-rest.new.nodes)
-    (g.N.Nodes.cells c.paint.new.nodes) _ c.args.root c.cut-rest.result.root c.cut-rest.result.fell
-    c.args.node u k (c.cut-rest.ensures.rest u (shrinks g s c.args.root u k)) black refl
-    (c.paint.ensures.keeper.order ∙ eo)
+    rw (c.paint.ensures.keeper.order ∙ eo) (removed (strict g.met.N.Nodes s) (g.N.Nodes.cells s)
+    (g.N.Nodes.cells c.cut-rest.new.nodes) (g.N.Nodes.cells c.paint.new.nodes) c.args.root c.cut-rest.result.root
+    c.cut-rest.result.fell c.args.node u k (c.cut-rest.ensures.rest u (shrinks g s c.args.root u k)) black)
 
 pub returns-clause-tree : goal.returns-clause-tree
 returns-clause-tree g c = λ u k. (removed_at g (goal.at.returns-clause-tree g c).After-paint u k).tree
@@ -138,4 +136,4 @@ pub returns-clause-steps : goal.returns-clause-steps
 returns-clause-steps g c = λ u k.
     let s = c.args.nodes.now in
     let steps = c.cut-rest.ensures.steps in
-    omega (arith, c.steps-2.ensures, steps u (shrinks g s c.args.root u k), height_bits u k.red_black)
+    omega (arith, steps u (shrinks g s c.args.root u k), height_bits u k.red_black)

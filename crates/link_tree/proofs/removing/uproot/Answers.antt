@@ -1,5 +1,5 @@
-use Rattle.std.proofs.Common.{refl, ◌≡◌, Bool, ℕ, ◌+◌, ◌*◌, ◌≤◌, Option, Some, sym, ap, ◌∙◌, arith}
-use Rattle.link_tree.specs.Tree.{Tree, height}
+use Rattle.std.proofs.Common.{refl, ◌≡◌, Bool, ℕ, ◌+◌, ◌<◌, ◌^◌, Option, Some, sym, ap, ◌∙◌, arith}
+use Rattle.link_tree.specs.Tree.{Tree}
 use Rattle.link_tree.specs.Nodes.{with_left, with_red}
 use Rattle.link_tree.specs.Shrinking.{IsOrderedTree, uprooted}
 use Rattle.link_tree.proofs.trees.Linked.{some_same}
@@ -8,6 +8,7 @@ use Rattle.link_tree.proofs.removing.LeastRemoval.{child_tree, HasChild, sink_fa
 use Rattle.link_tree.specs.declared.cursor.Side.TheVariants.{Right}
 use Rattle.link_tree.proofs.trees.NodeLaws.{strict}
 use Rattle.link_tree.proofs.removing.uproot.Goals as goal
+use Rattle.link_tree.proofs.removing.uproot.Goals.{After-take_least-next}
 use Rattle.link_tree.proofs.removing.uproot.Given.{Over}
 
 right_tree : (g : Over) (s : g.row.N.Denot) (at right : ℕ) (t : Tree)
@@ -36,35 +37,24 @@ take_least-next-requires-clause-tree g c =
     (b.tree, b.shrinks, omega arith)
 
 -- the steps of `take_least`
-spent : (g : Over) (s : g.row.N.Denot) (at right : ℕ) (t : Tree) (steps steps' more : ℕ)
-    → IsOrderedTree (g.N.Nodes.order s) (g.N.Nodes.cells s) (Some at) t
-    → ((u : Tree) → IsOrderedTree (g.N.Nodes.order s) (g.N.Nodes.cells s) (Some right) u
-    → steps' + more ≤ steps + 14 * height u + 9)
-    → (g.N.Nodes.cells s at).right ≡ Some right → steps' + 5 ≤ steps + 14 * height t
-spent g s at right t steps steps' more w told e =
-    let b = right_tree g s at right t w e in
-    omega (arith, told b.tree b.shrinks)
+few : (g : Over) (c : After-take_least-next g) → c.take_least-next.new.visits.steps + 48 < 2 ^ 64
+few g c =
+    let b = right_tree g c.args.nodes.now c.args.at c.in-Some.right c.requires.tree.0 c.requires.tree.1
+    (sym c.child.ensures.value ∙ c.in-Some.is) in
+    let room = c.requires.tree.2 in
+    omega (arith, c.take_least-next.ensures.steps b.tree b.shrinks)
 
 pub set_child-requires-clause-no_overflow : goal.set_child-requires-clause-no_overflow
 set_child-requires-clause-no_overflow g c =
-    let few = spent g _ c.args.at c.in-Some.right c.requires.tree.0 _ _ _ c.requires.tree.1
-    c.take_least-next.ensures.steps (sym c.child.ensures.value ∙ c.in-Some.is) in
-    let room = c.requires.tree.2 in
-    omega arith
+    omega (arith, few g (goal.at.set_child-requires-clause-no_overflow g c).After-take_least-next)
 
 pub set_red-requires-clause-no_overflow : goal.set_red-requires-clause-no_overflow
 set_red-requires-clause-no_overflow g c =
-    let few = spent g _ c.args.at c.in-Some.right c.requires.tree.0 _ _ _ c.requires.tree.1
-    c.take_least-next.ensures.steps (sym c.child.ensures.value ∙ c.in-Some.is) in
-    let room = c.requires.tree.2 in
-    omega arith
+    omega (arith, few g (goal.at.set_red-requires-clause-no_overflow g c).After-take_least-next)
 
 pub settle-requires-clause-no_overflow : goal.settle-requires-clause-no_overflow
 settle-requires-clause-no_overflow g c =
-    let few = spent g _ c.args.at c.in-Some.right c.requires.tree.0 _ _ _ c.requires.tree.1
-    c.take_least-next.ensures.steps (sym c.child.ensures.value ∙ c.in-Some.is) in
-    let room = c.requires.tree.2 in
-    omega arith
+    omega (arith, few g (goal.at.settle-requires-clause-no_overflow g c).After-take_least-next)
 
 pub returns-clause-rest : goal.returns-clause-rest
 returns-clause-rest g c = λ u w.

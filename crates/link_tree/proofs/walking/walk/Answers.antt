@@ -33,6 +33,5 @@ returns g c = record {
       let zero = c.new-visits.ensures.steps in
       let spent = c.walk_below.ensures.steps u
       (ahead g c.args.nodes.now c.args.root _ u k c.requires.root c.new-visits.ensures.position) in
-      let told = c.steps.ensures in
       omega arith;
 }

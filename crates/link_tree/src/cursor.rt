@@ -1,4 +1,5 @@
-//! The only access to nodes. It counts each step from one node to another.
+//! The access to nodes, which counts each step from one node to another. Only the fold of a search reads a node without
+//! it: the node at which the search stands.
 
 ghost use Rattle.std.specs.Prelude.{◌≡◌, ◌≢◌, ℕ, ◌+◌, ◌<◌, ◌≤◌, ◌^◌, Bool, true, false, Option, Some, None};
 ghost use Rattle.link_tree.specs.Tree.{Cell};

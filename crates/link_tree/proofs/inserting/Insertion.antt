@@ -1,10 +1,9 @@
 -- The insertion keeps order, colours and black heights.
 use Rattle.std.proofs.Common.{◌≡◌, ℕ, zero, suc, ◌+◌, ◌≤◌, Bool, true, false, not, ◌&&◌, ◌||◌, Option, Some, None, List}
-use Rattle.std.proofs.Common.{[], ◌∷◌, ◌++◌, nat_eq, refl, sym, ap, ◌∙◌, inl, inr, ◌⊎◌}
+use Rattle.std.proofs.Common.{[], ◌∷◌, ◌++◌, nat_eq, refl, sym, ap, ◌∙◌, inl, inr}
 use Rattle.std.specs.List.{list_all}
 use Rattle.std.proofs.lemmas.Bool.{true≢false, false≢true, and_parts, and_from, or_cases, or_from, or_parts, eqb-false}
-use Rattle.std.proofs.lemmas.Bool.{or_left, or_right, cases_Bool, eqb-true, ne_eqb, not-true, not_from_false}
-use Rattle.std.proofs.lemmas.Bool.{false_from_ne_true}
+use Rattle.std.proofs.lemmas.Bool.{cases_Bool, eqb-true, ne_eqb, not-true, not_from_false, false_from_ne_true}
 use Rattle.link_tree.specs.Tree.{Cell, Tree, leaf, fork, root_of, nodes_of, IsTree, IsSearchTree, is_sorted}
 use Rattle.link_tree.specs.Tree.{has_black_root, has_no_red_pair, has_black_height, IsRedBlack, height}
 use Rattle.link_tree.specs.Nodes.{is_in, is_ordered_with, insert_in_order, with_left, with_right, with_red}
@@ -44,33 +43,23 @@ put_in_right lt x (y ∷ xs) n ys e a =
     let f = not-true (lt x y) p.0 in
     rw f (ap (λ zs. y ∷ zs) (put_in_right lt x xs n ys e p.1))
 
-pub put_parts : (lt : ℕ → ℕ → Bool) (x : ℕ) (xs : List ℕ) (m : ℕ) → is_in m (insert_in_order lt x xs) ≡ true
-    → (m ≡ x) ⊎ (is_in m xs ≡ true)
-put_parts lt x [] m i = elim (or_cases (nat_eq m x) false i) [
-  | inl e ↦ inl (eqb-true m x e)
-  | inr e ↦ absurd (false≢true e)
-]
-put_parts lt x (y ∷ xs) m i =
+or_swap : (a b c : Bool) → (a || (b || c)) ≡ (b || (a || c))
+or_swap true true c = refl
+or_swap true false c = refl
+or_swap false b c = refl
+
+is_in-put : (lt : ℕ → ℕ → Bool) (x : ℕ) (xs : List ℕ) (m : ℕ)
+    → is_in m (insert_in_order lt x xs) ≡ (nat_eq m x || is_in m xs)
+is_in-put lt x [] m = refl
+is_in-put lt x (y ∷ xs) m =
     elim (cases_Bool (lt x y)) [
-      | inl a ↦
-          let j : is_in m (x ∷ y ∷ xs) ≡ true = rw a at i in
-          elim (or_cases (nat_eq m x) (is_in m (y ∷ xs)) j) [ inl e ↦ inl (eqb-true m x e) | inr e ↦ inr e ]
-      | inr a ↦
-          let j : is_in m (y ∷ insert_in_order lt x xs) ≡ true = rw a at i in
-          elim (or_cases (nat_eq m y) (is_in m (insert_in_order lt x xs)) j) [
-            | inl e ↦ inr (or_left (nat_eq m y) (is_in m xs) e)
-            | inr e ↦ elim (put_parts lt x xs m e) [
-              | inl f ↦ inl f
-              | inr f ↦ inr (or_right (nat_eq m y) (is_in m xs) f)
-            ]
-          ]
+      | inl a ↦ rw a refl
+      | inr a ↦ rw a (ap (λ b. nat_eq m y || b) (is_in-put lt x xs m) ∙ or_swap (nat_eq m y) (nat_eq m x) (is_in m xs))
     ]
 
 pub put_out : (lt : ℕ → ℕ → Bool) (x : ℕ) (xs : List ℕ) (m : ℕ) → (m ≡ x → ⊥) → is_in m xs ≡ false
     → is_in m (insert_in_order lt x xs) ≡ false
-put_out lt x xs m d o =
-    false_from_ne_true (is_in m (insert_in_order lt x xs))
-    (λ i. elim (put_parts lt x xs m i) [ inl e ↦ d e | inr e ↦ true≢false (sym e ∙ o) ])
+put_out lt x xs m d o = is_in-put lt x xs m ∙ or_from (nat_eq m x) (is_in m xs) (ne_eqb m x d) o
 
 -- a node has its place in each part of a list in which it has one
 pub place_part : (lt : ℕ → ℕ → Bool) (x : ℕ) (xs ys : List ℕ) → ((m : ℕ) → is_in m xs ≡ true → is_in m ys ≡ true)
@@ -153,7 +142,10 @@ module _ (lt : ℕ → ℕ → Bool) (transitive : (a b c : ℕ) → lt a b ≡ 
             elim (or_cases (lt x y) (lt y x) k.0) [ inl c ↦ absurd (true≢false (sym c ∙ a)) | inr c ↦ c ] in
             rw a (and_from (list_all (lt y) (insert_in_order lt x ys)) (is_sorted lt (insert_in_order lt x ys))
             (all_from (lt y) (insert_in_order lt x ys)
-            (λ m i. elim (put_parts lt x ys m i) [ inl e ↦ rw e b | inr j ↦ all_at (lt y) ys m q.0 j ]))
+            (λ m i. elim (or_cases (nat_eq m x) (is_in m ys) (sym (is_in-put lt x ys m) ∙ i)) [
+              | inl e ↦ rw (eqb-true m x e) b
+              | inr j ↦ all_at (lt y) ys m q.0 j
+            ]))
             (rises_put x ys q.1 k.1))
       ]
 

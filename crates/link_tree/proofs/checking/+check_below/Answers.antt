@@ -146,30 +146,22 @@ module _ {g : Over} {s : g.row.N.Denot} {link : Option ℕ} {n : ℕ} {low high 
   closed_on ns closed k =
       let i = subst (λ (o : Option ℕ). leads (λ m. is_in m ns) o ≡ true) r.is k in (closed.left n i, closed.right n i)
 
-  asked_left : leads (g.N.Nodes.is_node s) link ≡ true → leads (g.N.Nodes.is_node s) low ≡ true
-      → Room g s link low high start
-      → (leads (g.N.Nodes.is_node s) left ≡ true) × ((leads (g.N.Nodes.is_node s) low ≡ true)
-      × ((g.N.Nodes.is_node s n ≡ true) × Room g s left low (Some n) end))
-  asked_left good good_low room =
-      let node : g.N.Nodes.is_node s n ≡ true = rw r.is at good in
-      let fits = room_left _ _ _ _ _ r.few (split room.0 room.2) room.3 in
-      rw r.left_is (
-        g.met.N.Nodes.left_closed s n node,
-        (good_low, (node, (room.0, room.1, (closed_on room.0 room.1 room.2).0, fits))),
-      )
+  room_before : Room g s link low high start → Room g s left low (Some n) end
+  room_before room = (
+    room.0,
+    room.1,
+    rw r.left_is (closed_on room.0 room.1 room.2).0,
+    room_left _ _ _ _ _ r.few (split room.0 room.2) room.3,
+  )
 
-  asked_right : (end' : ℕ) → leads (g.N.Nodes.is_node s) link ≡ true
-      → leads (g.N.Nodes.is_node s) high ≡ true → (room : Room g s link low high start)
-      → end' ≤ end + 5 * count g s low (Some n) room.0 + 0
-      → (leads (g.N.Nodes.is_node s) right ≡ true) × ((g.N.Nodes.is_node s n ≡ true)
-      × ((leads (g.N.Nodes.is_node s) high ≡ true) × Room g s right (Some n) high end'))
-  asked_right end' good good_high room spent =
-      let node : g.N.Nodes.is_node s n ≡ true = rw r.is at good in
-      let fits = room_right _ _ _ _ _ _ r.few spent (split room.0 room.2) room.3 in
-      rw r.right_is (
-        g.met.N.Nodes.right_closed s n node,
-        (node, (good_high, (room.0, room.1, (closed_on room.0 room.1 room.2).1, fits))),
-      )
+  room_behind : (end' : ℕ) (room : Room g s link low high start) → end' ≤ end + 5 * count g s low (Some n) room.0 + 0
+      → Room g s right (Some n) high end'
+  room_behind end' room spent = (
+    room.0,
+    room.1,
+    rw r.right_is (closed_on room.0 room.1 room.2).1,
+    room_right _ _ _ _ _ _ r.few spent (split room.0 room.2) room.3,
+  )
 
   found_on : {part part' from to : Option ℕ} {b k : ℕ} → part ≡ part'
       → Found g s part from to red b k → Found g s part' from to (g.N.Nodes.cells s n).red b k
@@ -269,9 +261,12 @@ child-right-requires-clause-no_overflow g t c =
 pub check_below-requires : goal.check_below-requires
 check_below-requires g t c =
     let r = read g t (goal.at.check_below-requires g t c).After-child-right in
-    let asked = asked_left r c.requires.link c.requires.min_value c.requires.no_overflow in
+    let good = c.child-left.ensures.link_target in
+    let node : g.N.Nodes.is_node c.args.nodes.now c.in-Some.node ≡ true = rw c.in-Some.is at c.requires.link in
+    let room = room_before r c.requires.no_overflow in
+    let less = falls _ _ c.decreases c.if-levels-eq0.false in
     let deep = one_less _ c.requires.height in
-    λ κs lives. (falls _ _ c.decreases c.if-levels-eq0.false, (lives.0, (lives.1, (deep, asked))))
+    λ κs lives. (less, (lives.0, (lives.1, (deep, (good, (c.requires.min_value, (node, room)))))))
 
 pub returns-in_default-check_below-clause-complete : goal.returns-in_default-check_below-clause-complete
 returns-in_default-check_below-clause-complete g t c = λ u b k lower.
@@ -296,10 +291,12 @@ check_below-requires-2 g t c =
     let k = c.requires.no_overflow.2 in
     let first = spent_on r c.args.low (Some c.in-Some.node) ns _ true r.left_is closed (closed_on r ns closed k).0
     (ap is_some c.in-Some-check_below.is) c.check_below.ensures.steps in
-    let asked = asked_right r c.check_below.new.visits.steps c.requires.link c.requires.max_value
-    c.requires.no_overflow first in
+    let good = c.child-right.ensures.link_target in
+    let node : g.N.Nodes.is_node c.args.nodes.now c.in-Some.node ≡ true = rw c.in-Some.is at c.requires.link in
+    let room = room_behind r c.check_below.new.visits.steps c.requires.no_overflow first in
+    let less = falls _ _ c.decreases c.if-levels-eq0.false in
     let deep = one_less _ c.requires.height in
-    λ κs lives. (falls _ _ c.decreases c.if-levels-eq0.false, (lives.0, (lives.1, (deep, asked))))
+    λ κs lives. (less, (lives.0, (lives.1, (deep, (good, (node, (c.requires.max_value, room)))))))
 
 pub returns-in_default-check_below-2-clause-complete : goal.returns-in_default-check_below-2-clause-complete
 returns-in_default-check_below-2-clause-complete g t c = λ u b k lower.

@@ -1,5 +1,5 @@
 -- Where a change of a tree begins: above that node nothing changes.
-use Rattle.std.proofs.Common.{◌≡◌, ℕ, ◌≤◌, arith, Bool, true, false, not, Option, Some, List, ◌++◌, refl, sym, ap, ◌∙◌}
+use Rattle.std.proofs.Common.{◌≡◌, ℕ, ◌≤◌, arith, Bool, true, false, Option, Some, List, ◌++◌, sym, ap, ◌∙◌}
 use Rattle.std.proofs.lemmas.Bool.{true≢false, false_from_ne_true, or_from, or_parts}
 use Rattle.link_tree.specs.Tree.{Cell, Tree, root_of, nodes_of, AreCellsOf, IsTree, IsSearchTree, IsRedBlack, is_sorted}
 use Rattle.link_tree.specs.Tree.{has_black_root, height}
@@ -7,17 +7,11 @@ use Rattle.link_tree.specs.Nodes.{is_in}
 use Rattle.link_tree.specs.Sides.{joined_at}
 use Rattle.link_tree.specs.Turning.{BecomesTree, blackened}
 use Rattle.link_tree.specs.declared.cursor.Side.{Side}
-use Rattle.link_tree.specs.declared.cursor.Side.TheVariants.{Left, Right}
 use Rattle.link_tree.proofs.trees.OrderedLists.{IsStrict, is_in-append}
 use Rattle.link_tree.proofs.trees.Linked.{IsChanged, holds_same}
 use Rattle.link_tree.proofs.trees.OneSided.{Makes, cell_at, joint_of, tree_joint, root_joined, apart_of, in_far}
 use Rattle.link_tree.proofs.trees.OneSided.{in_near, in_root, lower_near, nodes_of-painted}
-use Rattle.link_tree.proofs.trees.BlackHeights.{IsEven}
-
-colour_joined : (side : Side) (red : Bool) (near : Tree) (n : ℕ) (far : Tree)
-    → has_black_root (joined_at side red near n far) ≡ not red
-colour_joined Left red near n far = refl
-colour_joined Right red near n far = refl
+use Rattle.link_tree.proofs.trees.BlackHeights.{IsEven, colour_joined}
 
 -- a node outside more nodes
 outside_less : (m : ℕ) (ns ms : List ℕ) → ((k : ℕ) → is_in k ns ≡ true → is_in k ms ≡ true) → is_in m ms ≡ false

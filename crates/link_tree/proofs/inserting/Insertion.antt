@@ -21,7 +21,7 @@ use Rattle.link_tree.proofs.trees.OneSided.{with_child-other, with_child-near, i
 use Rattle.link_tree.proofs.trees.OneSided.{nodes_of-joined, nodes_of-painted, nodes_of-turn}
 use Rattle.link_tree.proofs.inserting.Rotations.{graft}
 use Rattle.link_tree.proofs.trees.BlackHeights.{blackened_red_black, even_tree, IsEven, IsNearlyEven, red_nearly}
-use Rattle.link_tree.proofs.trees.BlackHeights.{rebalanced_even, rebalanced_red, red_of_join, nearly_even, under_red}
+use Rattle.link_tree.proofs.trees.BlackHeights.{rebalanced_even, rebalanced_red, colour_joined, nearly_even, under_red}
 use Rattle.link_tree.proofs.trees.BlackHeights.{sides_of_red, sides_of_black}
 
 -- ---- lists
@@ -194,7 +194,7 @@ grown_red side near near' n far b e f k =
     let even : IsEven near' b = record { no_red_pair = e.even k; black = e.nearly.black } in
     rw rebalanced_red (record {
       nearly = red_nearly side near' n far b even f;
-      even = λ q. absurd (true≢false (sym q ∙ red_of_join side near n far));
+      even = λ q. absurd (true≢false (sym q ∙ colour_joined side true near n far));
     })
 
 grown_black : (side : Side) (near near' : Tree) (n : ℕ) (far : Tree) (b : ℕ) → IsGrownEven near near' b → IsEven far b

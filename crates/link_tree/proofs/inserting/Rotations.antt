@@ -232,11 +232,6 @@ rotated-opposite : (side : Side) (a : Tree) (m : ℕ) (p : Tree) (k : ℕ) (q : 
 rotated-opposite Left a m p k q = refl
 rotated-opposite Right a m p k q = refl
 
-blackened-joined : (side : Side) (red : Bool) (near : Tree) (n : ℕ) (far : Tree)
-    → blackened (joined_at side red near n far) ≡ joined_at side false near n far
-blackened-joined Left red near n far = refl
-blackened-joined Right red near n far = refl
-
 painted-joined : (side : Side) (old red : Bool) (near : Tree) (n : ℕ) (far : Tree)
     → painted red (joined_at side old near n far) ≡ joined_at side red near n far
 painted-joined Left old red near n far = refl
@@ -333,7 +328,7 @@ module _ {lt : ℕ → ℕ → Bool} (strict : IsStrict lt) where
       let joint1 = joint_of h1 side true up k q l1.tree.holds in
       let up_tree : IsTree h1 (Some near) up =
       record { root = sym (root_joined side true a near p); holds = joint1.near_holds } in
-      let black = rw (blackened-joined side true a near p) at
+      let black = rw (painted-joined side true false a near p) at
       (paint_turns strict h1 h2 near false up up_tree apart1.near_rises blacken) in
       let nodes_up : nodes_of up' ≡ nodes_of up = nodes_of-joined side true false a a near p refl in
       let k_cell : h2 k ≡ cell_at side true (Some near) (root_of q) =

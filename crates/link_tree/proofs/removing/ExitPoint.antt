@@ -116,7 +116,8 @@ module _ {lt : ℕ → ℕ → Bool} (strict : IsStrict lt) (h : ℕ → Cell) (
             (turned_here side red near n far w o d s k)
       ]
 
-  turned : (t : Tree) (q : ℕ) → AreCellsOf h t → is_sorted lt (nodes_of t) ≡ true → remove_point_of lt x t ≡ Some q
+  -- a removal from an ordered tree begins at a node or at the root
+  pub turned : (t : Tree) (q : ℕ) → AreCellsOf h t → is_sorted lt (nodes_of t) ≡ true → remove_point_of lt x t ≡ Some q
       → IsTurned lt h x t q
   turned leaf q w o k = absurd (none_some q k)
   turned (fork red l n r) q w o k =
@@ -131,11 +132,6 @@ module _ {lt : ℕ → ℕ → Bool} (strict : IsStrict lt) (h : ℕ → Cell) (
               turned_over Right red r n l q w o d (ap side_of a) (remove_point_of lt x r) k' (turned r q)
         ]
       ]
-
-  -- a removal from a search tree begins at a node or at the root
-  pub turned_whole : (root : Option ℕ) (t : Tree) (p : ℕ) → IsSearchTree lt h root t → remove_point_of lt x t ≡ Some p
-      → IsTurned lt h x t p
-  turned_whole root t p s e = turned t p s.tree.holds s.ordered e
 
   -- a removal below its begin is a removal from the whole tree
   pub left : (h1 : ℕ → Cell) (root link : Option ℕ) (fell : Bool) (t : Tree) (p : ℕ)

@@ -6,7 +6,7 @@ use Rattle.link_tree.specs.Shrinking.{IsOrderedTree}
 use Rattle.link_tree.specs.Ways.{remove_point_of}
 use Rattle.link_tree.proofs.trees.Linked.{IsChanged, one_tree, root_in}
 use Rattle.link_tree.proofs.inserting.ChangePoint.{Begins}
-use Rattle.link_tree.proofs.removing.ExitPoint.{IsTurned, left, turned_whole}
+use Rattle.link_tree.proofs.removing.ExitPoint.{IsTurned, left, turned}
 use Rattle.link_tree.proofs.trees.Heights.{height_bits}
 use Rattle.link_tree.proofs.trees.NodeLaws.{low_tree, node_of, strict}
 use Rattle.link_tree.proofs.removing.RootRemoval.{removed}
@@ -33,7 +33,7 @@ begins g s root exit x p t u k way is m =
     let e = one_tree (g.N.Nodes.cells s) root t u k.tree m.tree in
     let at : remove_point_of (g.N.Nodes.order s) x t ≡ Some p = rw is at way in
     subst (λ v. IsTurned (g.N.Nodes.order s) (g.N.Nodes.cells s) x v p) e
-    (turned_whole (strict g.met.N.Nodes s) (g.N.Nodes.cells s) x root t p k at)
+    (turned (strict g.met.N.Nodes s) (g.N.Nodes.cells s) x t p k.tree.holds k.ordered at)
 
 pub cut-requires-clause-link : goal.cut-requires-clause-link
 cut-requires-clause-link g c =

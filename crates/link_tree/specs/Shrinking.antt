@@ -23,10 +23,6 @@ pub record RemovesTo (cells cells' : ℕ
     pub turned : BecomesTree cells cells' ns link rest.tree
     pub fallen : has_fallen ≡ rest.fell
 
--- the tree with a red root
-abbrev pub reddened : Tree → Tree
-reddened t = painted true t
-
 -- if the tree on the far side lost a black node, the near tree, which is heavier, gives up one, after Filliâtre
 abbrev pub mended_at : Side → Bool → Tree → ℕ → Tree → RemovedSubtree
 mended_at side red leaf n far = record { tree = joined_at side red leaf n far; fell = false }
@@ -35,7 +31,7 @@ mended_at side red (fork false left m right) n far =
 mended_at side red (fork true left m right) n far =
     record {
       tree = joined_at side false (tree_on side left right) m
-          (rebalanced side (joined_at side red (reddened (tree_on (opposite side) left right)) n far));
+          (rebalanced side (joined_at side red (painted true (tree_on (opposite side) left right)) n far));
       fell = false;
     }
 

@@ -1,7 +1,6 @@
 //! Searches that also return the node at which a later insertion or removal begins.
 
 ghost use Rattle.std.specs.Prelude.{◌≡◌, ℕ, ◌+◌, ◌*◌, ◌≤◌, Bool, true, false, Option, Some, None, List, length, IfSome};
-ghost use Rattle.std.specs.Prelude.{if◌then◌else◌};
 ghost use Rattle.link_tree.specs.Tree.{Tree, IsSearchTree, nodes_of, bits};
 ghost use Rattle.link_tree.specs.Nodes.{leads, first_not_before};
 ghost use Rattle.link_tree.specs.Searching.{path_length};
@@ -32,8 +31,8 @@ struct Passed {
 impl PathFold for Passed {
     ghost passed = { passed };
 
-    fn fold_node<N: Nodes>(self, visits: &mut NodeCursor<N>, node: u64, _before: bool) -> Passed {
-        if visits.red(node) {
+    fn fold_node<N: Nodes>(self, nodes: &N, node: u64, _before: bool) -> Passed {
+        if nodes.red(node) {
             return Passed {
                 above: None,
                 entry: self.entry,
@@ -69,7 +68,7 @@ struct Reached {
 impl PathFold for Reached {
     ghost passed = { reached };
 
-    fn fold_node<N: Nodes>(self, _visits: &mut NodeCursor<N>, node: u64, before: bool) -> Reached {
+    fn fold_node<N: Nodes>(self, _nodes: &N, node: u64, before: bool) -> Reached {
         Reached {
             node: if before { self.node } else { Some(node) },
             last: Some(node),
@@ -104,8 +103,8 @@ struct Followed {
 impl PathFold for Followed {
     ghost passed = { followed };
 
-    fn fold_node<N: Nodes>(self, visits: &mut NodeCursor<N>, node: u64, before: bool) -> Followed {
-        let red = visits.red(node);
+    fn fold_node<N: Nodes>(self, nodes: &N, node: u64, before: bool) -> Followed {
+        let red = nodes.red(node);
         let exit = if red { self.above } else { self.exit };
         Followed {
             node: if before { self.node } else { Some(node) },
@@ -198,17 +197,17 @@ pub fn find_entry<N: Nodes>(
             steps: 0,
         };
     };
-    let mut visits = NodeCursor::new(nodes);
-    if !visits.red(node) {
+    let mut visits = NodeCursor::new();
+    if !visits.red(nodes, node) {
         return EntryPoint {
             entry: last,
-            steps: visits.steps(),
+            steps: visits.steps,
         };
     }
     let way = find_insert_point(nodes, root, probe);
     EntryPoint {
         entry: way.entry,
-        steps: visits.steps() + way.steps,
+        steps: visits.steps + way.steps,
     }
 }
 

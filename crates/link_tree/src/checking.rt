@@ -7,7 +7,7 @@ ghost use Rattle.link_tree.specs.Nodes.{leads, is_in};
 ghost use Rattle.link_tree.specs.Between.{count_between, is_between};
 ghost use Rattle.link_tree.specs.Checking.{IsLinkClosed, IsSound};
 
-use crate::cursor::NodeCursor;
+use crate::cursor::{NodeCursor, Side};
 use crate::nodes::Nodes;
 
 /// An upper bound on the height of a red-black tree with at most 2 to the 40th nodes.
@@ -31,17 +31,17 @@ struct Part {
 
 /// Returns true if the node follows `low` and precedes `high`, as far as they are there.
 fn stands_between<N: Nodes>(
-    visits: &mut NodeCursor<N>,
+    nodes: &N,
+    visits: &mut NodeCursor,
     low: Option<u64>,
     node: u64,
     high: Option<u64>,
 ) -> bool
-    requires min_value { leads (N.is_node visits.old.nodes.now) low ≡ true }
-    requires max_value { leads (N.is_node visits.old.nodes.now) high ≡ true }
-    requires node { N.is_node visits.old.nodes.now node ≡ true }
+    requires min_value { leads (N.is_node nodes.now) low ≡ true }
+    requires max_value { leads (N.is_node nodes.now) high ≡ true }
+    requires node { N.is_node nodes.now node ≡ true }
     requires no_overflow { visits.old.steps + 4 < 2 ^ 64 }
-    ensures value { result ≡ is_between (N.order visits.old.nodes.now) low node high }
-    ensures nodes { visits.new.nodes.now ≡ visits.old.nodes.now }
+    ensures value { result ≡ is_between (N.order nodes.now) low node high }
     ensures position { low ≡ None → high ≡ None → visits.new.at ≡ visits.old.at }
     ensures steps_lower { visits.old.steps ≤ visits.new.steps }
     ensures steps_upper { visits.new.steps ≤ visits.old.steps + 4 }
@@ -50,12 +50,12 @@ fn stands_between<N: Nodes>(
         → visits.old.steps < visits.new.steps }
 {
     if let Some(low) = low {
-        if !visits.precedes(low, node) {
+        if !visits.precedes(nodes, low, node) {
             return false;
         }
     }
     match high {
-        Some(high) => visits.precedes(node, high),
+        Some(high) => visits.precedes(nodes, node, high),
         None => true,
     }
 }
@@ -65,7 +65,8 @@ fn stands_between<N: Nodes>(
 /// It visits no node twice between the same bounds, so it ends on cycles and shared nodes too. Each nested call has one
 /// level less, so the depth is at most 82 calls for any links.
 fn check_below<N: Nodes>(
-    visits: &mut NodeCursor<N>,
+    nodes: &N,
+    visits: &mut NodeCursor,
     link: Option<u64>,
     low: Option<u64>,
     high: Option<u64>,
@@ -73,32 +74,27 @@ fn check_below<N: Nodes>(
     levels: u64,
 ) -> Option<Part>
     requires height { levels ≤ 82 }
-    requires link { leads (N.is_node visits.old.nodes.now) link ≡ true }
-    requires min_value { leads (N.is_node visits.old.nodes.now) low ≡ true }
-    requires max_value { leads (N.is_node visits.old.nodes.now) high ≡ true }
-    requires no_overflow { (ns : List ℕ) × IsLinkClosed (N.cells visits.old.nodes.now) ns
+    requires link { leads (N.is_node nodes.now) link ≡ true }
+    requires min_value { leads (N.is_node nodes.now) low ≡ true }
+    requires max_value { leads (N.is_node nodes.now) high ≡ true }
+    requires no_overflow { (ns : List ℕ) × IsLinkClosed (N.cells nodes.now) ns
         × (leads (λ n. is_in n ns) link ≡ true)
-        × (visits.old.steps
-        + 5 * count_between (N.order visits.old.nodes.now) low high ns + 5 < 2 ^ 64) }
+        × (visits.old.steps + 5 * count_between (N.order nodes.now) low high ns + 5 < 2 ^ 64) }
     ensures sound { IfSome result (λ part. (t : Tree)
-        × IsSound (N.order visits.old.nodes.now)
-        (N.cells visits.old.nodes.now) link low high red_above t part.blacks
+        × IsSound (N.order nodes.now) (N.cells nodes.now) link low high red_above t part.blacks
         × (length (nodes_of t) ≡ part.nodes)) }
     // It finds each such tree of height at most `levels`.
     ensures complete { (t : Tree) (blacks : ℕ)
-        → IsSound (N.order visits.old.nodes.now)
-        (N.cells visits.old.nodes.now) link low high red_above t blacks
+        → IsSound (N.order nodes.now) (N.cells nodes.now) link low high red_above t blacks
         → height t ≤ levels → is_some result ≡ true }
-    ensures steps { (ns : List ℕ) → IsLinkClosed (N.cells visits.old.nodes.now) ns
+    ensures steps { (ns : List ℕ) → IsLinkClosed (N.cells nodes.now) ns
         → leads (λ n. is_in n ns) link ≡ true
-        → visits.new.steps ≤ visits.old.steps
-        + 5 * count_between (N.order visits.old.nodes.now) low high ns
+        → visits.new.steps ≤ visits.old.steps + 5 * count_between (N.order nodes.now) low high ns
         + (if is_some result then 0 else 5) }
     // The check visits a node again after it has left it, and when it compares the node with a bound.
     ensures steps_lower { visits.old.at ≡ None ⊎ (is_some low ≡ true ⊎ is_some high ≡ true)
         → IfSome result (λ part. visits.old.steps + part.nodes ≤ visits.new.steps) }
     ensures blacks { IfSome result (λ part. part.blacks ≤ levels) }
-    ensures nodes { visits.new.nodes.now ≡ visits.old.nodes.now }
 {
     let Some(node) = link else {
         return Some(Part {
@@ -109,33 +105,33 @@ fn check_below<N: Nodes>(
     if levels == 0 {
         return None;
     }
-    if !stands_between(visits, low, node, high) {
+    if !stands_between(nodes, visits, low, node, high) {
         return None;
     }
-    let red = visits.red(node);
-    let left = visits.left(node);
-    let right = visits.right(node);
+    let red = visits.red(nodes, node);
+    let left = visits.child(nodes, node, Side::Left);
+    let right = visits.child(nodes, node, Side::Right);
     if red && red_above {
         return None;
     }
-    let Some(before) = check_below(visits, left, low, Some(node), red, levels - 1) else {
+    let Some(before) = check_below(nodes, visits, left, low, Some(node), red, levels - 1) else {
         return None;
     };
-    let Some(behind) = check_below(visits, right, Some(node), high, red, levels - 1) else {
+    let Some(behind) = check_below(nodes, visits, right, Some(node), high, red, levels - 1) else {
         return None;
     };
     if before.blacks != behind.blacks {
         return None;
     }
-    let nodes = before.nodes + behind.nodes + 1;
+    let count = before.nodes + behind.nodes + 1;
     if red {
         return Some(Part {
-            nodes,
+            nodes: count,
             blacks: before.blacks,
         });
     }
     Some(Part {
-        nodes,
+        nodes: count,
         blacks: before.blacks + 1,
     })
 }
@@ -157,15 +153,15 @@ pub fn check<N: Nodes>(nodes: &N, root: Option<u64>) -> CheckedTree
     // A check that succeeds visits each node at least once.
     ensures steps_lower { IfSome result.nodes (λ n. n ≤ result.steps) }
 {
-    let mut visits = NodeCursor::new(nodes);
-    let Some(part) = check_below(&mut visits, root, None, None, true, MAX_HEIGHT) else {
+    let mut visits = NodeCursor::new();
+    let Some(part) = check_below(nodes, &mut visits, root, None, None, true, MAX_HEIGHT) else {
         return CheckedTree {
             nodes: None,
-            steps: visits.steps(),
+            steps: visits.steps,
         };
     };
     CheckedTree {
         nodes: Some(part.nodes),
-        steps: visits.steps(),
+        steps: visits.steps,
     }
 }

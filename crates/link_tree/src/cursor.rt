@@ -1,8 +1,9 @@
-//! The only access to nodes. It counts each step from one node to another.
+//! The access to nodes, which counts each step from one node to another. Only the fold of a search reads a node without
+//! it: the node at which the search stands.
 
 ghost use Rattle.std.specs.Prelude.{◌≡◌, ◌≢◌, ℕ, ◌+◌, ◌<◌, ◌≤◌, ◌^◌, Bool, true, false, Option, Some, None};
 ghost use Rattle.link_tree.specs.Tree.{Cell};
-ghost use Rattle.link_tree.specs.Nodes.{with_left, with_right, with_red, is_in, leads};
+ghost use Rattle.link_tree.specs.Nodes.{with_red, leads};
 ghost use Rattle.link_tree.specs.Frame.{SameExceptCells};
 
 use crate::nodes::{Nodes, NodesMut};
@@ -46,164 +47,27 @@ pub struct DescentStep {
     pub link: Option<u64>,
 }
 
-/// A reader of nodes: its position, and the number of its steps.
-#[derive(Drop)]
-pub struct NodeCursor<'a, N> {
-    nodes: &'a N,
+/// A position at a node, and the number of steps to it.
+#[derive(Clone, Copy)]
+pub struct NodeCursor {
     at: Option<u64>,
-    steps: u64,
+    /// The number of steps so far. Only the calls of this file change it.
+    pub steps: u64,
 }
 
-impl<'a, N: Nodes> NodeCursor<'a, N> {
-    /// Makes a cursor without a position, with 0 steps.
-    pub fn new(nodes: &'a N) -> NodeCursor<'a, N>
-        ensures nodes { result.nodes.now ≡ nodes.now }
-        ensures position { result.at ≡ None }
-        ensures steps { result.steps ≡ 0 }
-    {
-        NodeCursor {
-            nodes,
-            at: None,
-            steps: 0,
-        }
-    }
-
-    /// Returns the number of steps so far.
-    pub fn steps(&self) -> u64
-        ensures { result ≡ self.now.steps }
-    {
-        self.steps
-    }
-
-    fn go(&mut self, node: u64)
-        requires { self.old.steps + 1 < 2 ^ 64 }
-        ensures nodes { self.new.nodes.now ≡ self.old.nodes.now }
-        ensures position { self.new.at ≡ Some node }
-        ensures steps_lower { self.old.steps ≤ self.new.steps }
-        ensures steps_upper { self.new.steps ≤ self.old.steps + 1 }
-        ensures unchanged { self.old.at ≡ Some node → self.new.steps ≡ self.old.steps }
-        ensures progress_on_step { self.old.at ≢ Some node → self.new.steps ≡ self.old.steps + 1 }
-    {
-        if self.at != Some(node) {
-            self.steps += 1;
-            self.at = Some(node);
-        }
-    }
-
-    /// Goes to a node and returns its left link.
-    pub fn left(&mut self, node: u64) -> Option<u64>
-        requires node { N.is_node self.old.nodes.now node ≡ true }
-        requires no_overflow { self.old.steps + 1 < 2 ^ 64 }
-        ensures value { result ≡ (N.cells self.old.nodes.now node).left }
-        ensures nodes { self.new.nodes.now ≡ self.old.nodes.now }
-        ensures position { self.new.at ≡ Some node }
-        ensures steps_upper { self.new.steps ≤ self.old.steps + 1 }
-        ensures unchanged { self.old.at ≡ Some node → self.new.steps ≡ self.old.steps }
-        ensures progress_on_step { self.old.at ≢ Some node → self.new.steps ≡ self.old.steps + 1 }
-    {
-        self.go(node);
-        self.nodes.left(node)
-    }
-
-    /// Goes to a node and returns its right link.
-    pub fn right(&mut self, node: u64) -> Option<u64>
-        requires node { N.is_node self.old.nodes.now node ≡ true }
-        requires no_overflow { self.old.steps + 1 < 2 ^ 64 }
-        ensures value { result ≡ (N.cells self.old.nodes.now node).right }
-        ensures nodes { self.new.nodes.now ≡ self.old.nodes.now }
-        ensures position { self.new.at ≡ Some node }
-        ensures steps_upper { self.new.steps ≤ self.old.steps + 1 }
-        ensures unchanged { self.old.at ≡ Some node → self.new.steps ≡ self.old.steps }
-        ensures progress_on_step { self.old.at ≢ Some node → self.new.steps ≡ self.old.steps + 1 }
-    {
-        self.go(node);
-        self.nodes.right(node)
-    }
-
-    /// Goes to a node and returns true if it is red.
-    pub fn red(&mut self, node: u64) -> bool
-        requires node { N.is_node self.old.nodes.now node ≡ true }
-        requires no_overflow { self.old.steps + 1 < 2 ^ 64 }
-        ensures value { result ≡ (N.cells self.old.nodes.now node).red }
-        ensures nodes { self.new.nodes.now ≡ self.old.nodes.now }
-        ensures position { self.new.at ≡ Some node }
-        ensures steps_lower { self.old.steps ≤ self.new.steps }
-        ensures steps_upper { self.new.steps ≤ self.old.steps + 1 }
-        ensures unchanged { self.old.at ≡ Some node → self.new.steps ≡ self.old.steps }
-        ensures progress_on_step { self.old.at ≢ Some node → self.new.steps ≡ self.old.steps + 1 }
-    {
-        self.go(node);
-        self.nodes.red(node)
-    }
-
-    /// Goes to both nodes and returns true if the first precedes the second.
-    pub fn precedes(&mut self, first: u64, second: u64) -> bool
-        requires first { N.is_node self.old.nodes.now first ≡ true }
-        requires second { N.is_node self.old.nodes.now second ≡ true }
-        requires no_overflow { self.old.steps + 2 < 2 ^ 64 }
-        ensures value { result ≡ N.order self.old.nodes.now first second }
-        ensures nodes { self.new.nodes.now ≡ self.old.nodes.now }
-        ensures position { self.new.at ≡ Some second }
-        ensures steps_lower { self.old.steps ≤ self.new.steps }
-        ensures steps_upper { self.new.steps ≤ self.old.steps + 2 }
-        ensures progress_on_step { first ≢ second → self.old.steps < self.new.steps }
-    {
-        self.go(first);
-        self.go(second);
-        self.nodes.precedes(first, second)
-    }
-
-    /// Goes to a node and returns true if it precedes the probe.
-    pub fn before_probe(&mut self, node: u64, probe: &N::Probe) -> bool
-        requires node { N.is_node self.old.nodes.now node ≡ true }
-        requires no_overflow { self.old.steps + 1 < 2 ^ 64 }
-        ensures value { result ≡ N.before self.old.nodes.now probe.now node }
-        ensures nodes { self.new.nodes.now ≡ self.old.nodes.now }
-        ensures position { self.new.at ≡ Some node }
-        ensures steps_upper { self.new.steps ≤ self.old.steps + 1 }
-        ensures progress_on_step { self.old.at ≢ Some node → self.new.steps ≡ self.old.steps + 1 }
-    {
-        self.go(node);
-        self.nodes.before_probe(node, probe)
-    }
-}
-
-/// A reader and writer of nodes: its position, and the number of its steps.
-#[derive(Drop)]
-pub struct NodeCursorMut<'a, N> {
-    nodes: &'a mut N,
-    at: Option<u64>,
-    steps: u64,
-}
-
-impl<'a, N: NodesMut> NodeCursorMut<'a, N> {
+impl NodeCursor {
     ghost use Rattle.link_tree.specs.Sides.{child_of, side_of, with_child};
 
     /// Makes a cursor without a position, with 0 steps.
-    pub fn new(nodes: &'a mut N) -> NodeCursorMut<'a, N>
-        ensures same_borrow { result.nodes.ghost_name ≡ nodes.entry.ghost_name }
-        ensures nodes { result.nodes.now ≡ nodes.old }
+    pub fn new() -> NodeCursor
         ensures position { result.at ≡ None }
         ensures steps { result.steps ≡ 0 }
     {
-        NodeCursorMut {
-            nodes,
-            at: None,
-            steps: 0,
-        }
-    }
-
-    /// Returns the number of steps so far.
-    pub fn steps(&self) -> u64
-        ensures { result ≡ self.now.steps }
-    {
-        self.steps
+        NodeCursor { at: None, steps: 0 }
     }
 
     fn go(&mut self, node: u64)
         requires { self.old.steps + 1 < 2 ^ 64 }
-        ensures same_borrow { self.new.nodes.ghost_name ≡ self.old.nodes.ghost_name }
-        ensures nodes { self.new.nodes.now ≡ self.old.nodes.now }
         ensures position { self.new.at ≡ Some node }
         ensures steps_lower { self.old.steps ≤ self.new.steps }
         ensures steps_upper { self.new.steps ≤ self.old.steps + 1 }
@@ -217,13 +81,11 @@ impl<'a, N: NodesMut> NodeCursorMut<'a, N> {
     }
 
     /// Goes to a node and returns its link on a side.
-    pub fn child(&mut self, node: u64, side: Side) -> Option<u64>
-        requires node { N.is_node self.old.nodes.now node ≡ true }
+    pub fn child<N: Nodes>(&mut self, nodes: &N, node: u64, side: Side) -> Option<u64>
+        requires node { N.is_node nodes.now node ≡ true }
         requires no_overflow { self.old.steps + 1 < 2 ^ 64 }
-        ensures value { result ≡ child_of side (N.cells self.old.nodes.now node) }
-        ensures link_target { leads (N.is_node self.old.nodes.now) result ≡ true }
-        ensures same_borrow { self.new.nodes.ghost_name ≡ self.old.nodes.ghost_name }
-        ensures nodes { self.new.nodes.now ≡ self.old.nodes.now }
+        ensures value { result ≡ child_of side (N.cells nodes.now node) }
+        ensures link_target { leads (N.is_node nodes.now) result ≡ true }
         ensures position { self.new.at ≡ Some node }
         ensures steps_lower { self.old.steps ≤ self.new.steps }
         ensures steps_upper { self.new.steps ≤ self.old.steps + 1 }
@@ -232,18 +94,16 @@ impl<'a, N: NodesMut> NodeCursorMut<'a, N> {
     {
         self.go(node);
         match side {
-            Side::Left => self.nodes.left(node),
-            Side::Right => self.nodes.right(node),
+            Side::Left => nodes.left(node),
+            Side::Right => nodes.right(node),
         }
     }
 
     /// Goes to a node and returns true if it is red.
-    pub fn red(&mut self, node: u64) -> bool
-        requires node { N.is_node self.old.nodes.now node ≡ true }
+    pub fn red<N: Nodes>(&mut self, nodes: &N, node: u64) -> bool
+        requires node { N.is_node nodes.now node ≡ true }
         requires no_overflow { self.old.steps + 1 < 2 ^ 64 }
-        ensures value { result ≡ (N.cells self.old.nodes.now node).red }
-        ensures same_borrow { self.new.nodes.ghost_name ≡ self.old.nodes.ghost_name }
-        ensures nodes { self.new.nodes.now ≡ self.old.nodes.now }
+        ensures value { result ≡ (N.cells nodes.now node).red }
         ensures position { self.new.at ≡ Some node }
         ensures steps_lower { self.old.steps ≤ self.new.steps }
         ensures steps_upper { self.new.steps ≤ self.old.steps + 1 }
@@ -251,17 +111,15 @@ impl<'a, N: NodesMut> NodeCursorMut<'a, N> {
         ensures progress { self.old.at ≡ None → self.old.steps < self.new.steps }
     {
         self.go(node);
-        self.nodes.red(node)
+        nodes.red(node)
     }
 
     /// Goes to both nodes and returns true if the first precedes the second.
-    pub fn precedes(&mut self, first: u64, second: u64) -> bool
-        requires first { N.is_node self.old.nodes.now first ≡ true }
-        requires second { N.is_node self.old.nodes.now second ≡ true }
+    pub fn precedes<N: Nodes>(&mut self, nodes: &N, first: u64, second: u64) -> bool
+        requires first { N.is_node nodes.now first ≡ true }
+        requires second { N.is_node nodes.now second ≡ true }
         requires no_overflow { self.old.steps + 2 < 2 ^ 64 }
-        ensures value { result ≡ N.order self.old.nodes.now first second }
-        ensures same_borrow { self.new.nodes.ghost_name ≡ self.old.nodes.ghost_name }
-        ensures nodes { self.new.nodes.now ≡ self.old.nodes.now }
+        ensures value { result ≡ N.order nodes.now first second }
         ensures position { self.new.at ≡ Some second }
         ensures steps_lower { self.old.steps ≤ self.new.steps }
         ensures steps_upper { self.new.steps ≤ self.old.steps + 2 }
@@ -270,39 +128,47 @@ impl<'a, N: NodesMut> NodeCursorMut<'a, N> {
     {
         self.go(first);
         self.go(second);
-        self.nodes.precedes(first, second)
+        nodes.precedes(first, second)
+    }
+
+    /// Goes to a node and returns true if it precedes the probe.
+    pub fn before_probe<N: Nodes>(&mut self, nodes: &N, node: u64, probe: &N::Probe) -> bool
+        requires node { N.is_node nodes.now node ≡ true }
+        requires no_overflow { self.old.steps + 1 < 2 ^ 64 }
+        ensures value { result ≡ N.before nodes.now probe.now node }
+        ensures position { self.new.at ≡ Some node }
+        ensures steps_upper { self.new.steps ≤ self.old.steps + 1 }
+        ensures progress_on_step { self.old.at ≢ Some node → self.new.steps ≡ self.old.steps + 1 }
+    {
+        self.go(node);
+        nodes.before_probe(node, probe)
     }
 
     /// Returns the side of `at` on which `node` belongs, and the link on that side.
-    pub fn toward(&mut self, node: u64, at: u64) -> DescentStep
-        requires node { N.is_node self.old.nodes.now node ≡ true }
-        requires position { N.is_node self.old.nodes.now at ≡ true }
+    pub fn toward<N: Nodes>(&mut self, nodes: &N, node: u64, at: u64) -> DescentStep
+        requires node { N.is_node nodes.now node ≡ true }
+        requires position { N.is_node nodes.now at ≡ true }
         requires no_overflow { self.old.steps + 3 < 2 ^ 64 }
-        ensures side { result.side ≡ side_of (N.order self.old.nodes.now node at) }
-        ensures link { result.link ≡ child_of (side_of (N.order self.old.nodes.now node at))
-            (N.cells self.old.nodes.now at) }
-        ensures link_target { leads (N.is_node self.old.nodes.now) result.link ≡ true }
-        ensures same_borrow { self.new.nodes.ghost_name ≡ self.old.nodes.ghost_name }
-        ensures nodes { self.new.nodes.now ≡ self.old.nodes.now }
+        ensures side { result.side ≡ side_of (N.order nodes.now node at) }
+        ensures link { result.link ≡ child_of (side_of (N.order nodes.now node at)) (N.cells nodes.now at) }
+        ensures link_target { leads (N.is_node nodes.now) result.link ≡ true }
         ensures steps_lower { self.old.steps ≤ self.new.steps }
         ensures steps_upper { self.new.steps ≤ self.old.steps + 2 }
         ensures progress_on_step { node ≢ at → self.old.steps < self.new.steps }
         ensures progress { self.old.at ≡ None → self.old.steps < self.new.steps }
     {
-        let side = Side::of(self.precedes(node, at));
-        let link = self.child(at, side);
+        let side = Side::of(self.precedes(nodes, node, at));
+        let link = self.child(nodes, at, side);
         DescentStep { side, link }
     }
 
     /// Goes to a node and sets its link on a side.
-    pub fn set_child(&mut self, node: u64, side: Side, to: Option<u64>)
-        requires node { N.is_node self.old.nodes.now node ≡ true }
-        requires target { leads (N.is_node self.old.nodes.now) to ≡ true }
+    pub fn set_child<N: NodesMut>(&mut self, nodes: &mut N, node: u64, side: Side, to: Option<u64>)
+        requires node { N.is_node nodes.old node ≡ true }
+        requires target { leads (N.is_node nodes.old) to ≡ true }
         requires no_overflow { self.old.steps + 1 < 2 ^ 64 }
-        ensures cells { N.cells self.new.nodes.now
-            ≡ with_child side (N.cells self.old.nodes.now) node to }
-        ensures same_borrow { self.new.nodes.ghost_name ≡ self.old.nodes.ghost_name }
-        ensures keeper { SameExceptCells N.Nodes self.old.nodes.now self.new.nodes.now }
+        ensures cells { N.cells nodes.new ≡ with_child side (N.cells nodes.old) node to }
+        ensures keeper { SameExceptCells N.Nodes nodes.old nodes.new }
         ensures position { self.new.at ≡ Some node }
         ensures steps_lower { self.old.steps ≤ self.new.steps }
         ensures steps_upper { self.new.steps ≤ self.old.steps + 1 }
@@ -311,26 +177,24 @@ impl<'a, N: NodesMut> NodeCursorMut<'a, N> {
     {
         self.go(node);
         match side {
-            Side::Left => self.nodes.set_left(node, to),
-            Side::Right => self.nodes.set_right(node, to),
+            Side::Left => nodes.set_left(node, to),
+            Side::Right => nodes.set_right(node, to),
         }
     }
 
     /// Goes to a node and sets its colour.
-    pub fn set_red(&mut self, node: u64, red: bool)
-        requires node { N.is_node self.old.nodes.now node ≡ true }
+    pub fn set_red<N: NodesMut>(&mut self, nodes: &mut N, node: u64, red: bool)
+        requires node { N.is_node nodes.old node ≡ true }
         requires no_overflow { self.old.steps + 1 < 2 ^ 64 }
-        ensures cells { N.cells self.new.nodes.now
-            ≡ with_red (N.cells self.old.nodes.now) node red }
-        ensures same_borrow { self.new.nodes.ghost_name ≡ self.old.nodes.ghost_name }
-        ensures keeper { SameExceptCells N.Nodes self.old.nodes.now self.new.nodes.now }
+        ensures cells { N.cells nodes.new ≡ with_red (N.cells nodes.old) node red }
+        ensures keeper { SameExceptCells N.Nodes nodes.old nodes.new }
         ensures position { self.new.at ≡ Some node }
         ensures steps_lower { self.old.steps ≤ self.new.steps }
         ensures steps_upper { self.new.steps ≤ self.old.steps + 1 }
         ensures unchanged { self.old.at ≡ Some node → self.new.steps ≡ self.old.steps }
         ensures progress_on_step { self.old.at ≢ Some node → self.new.steps ≡ self.old.steps + 1 }
     {
-        self.nodes.set_red(node, red);
+        nodes.set_red(node, red);
         self.go(node);
     }
 }

@@ -1,12 +1,11 @@
 //! The search that all calls share. It goes down a tree and folds a value over the nodes of its path.
 
-ghost use Rattle.std.specs.Prelude.{◌≡◌, ℕ, ◌+◌, ◌*◌, ◌<◌, ◌≤◌, ◌^◌, Bool, true, false, Option, Some, None, List};
-ghost use Rattle.std.specs.Prelude.{length};
+ghost use Rattle.std.specs.Prelude.{◌≡◌, ℕ, ◌+◌, ◌*◌, ◌≤◌, Bool, true, Option, Some, length};
 ghost use Rattle.link_tree.specs.Tree.{Tree, IsSearchTree, nodes_of, bits};
 ghost use Rattle.link_tree.specs.Nodes.{leads};
 ghost use Rattle.link_tree.specs.Searching.{path_length, noted};
 
-use crate::cursor::NodeCursor;
+use crate::cursor::{NodeCursor, Side};
 use crate::nodes::Nodes;
 
 /// A value that a search folds over the nodes of its path.
@@ -15,15 +14,10 @@ pub trait PathFold: Copy {
     // the probe.
     ghost passed: { Self → ℕ → Bool → Bool → Self };
 
-    /// Returns the value after the node at which the search stands.
-    fn fold_node<N: Nodes>(self, visits: &mut NodeCursor<N>, node: u64, before: bool) -> Self
-        requires node { N.is_node visits.old.nodes.now node ≡ true }
-        requires position { visits.old.at ≡ Some node }
-        requires no_overflow { visits.old.steps + 1 < 2 ^ 64 }
-        ensures mark { result ≡ passed self node (N.cells visits.old.nodes.now node).red before }
-        ensures nodes { visits.new.nodes.now ≡ visits.old.nodes.now }
-        ensures position { visits.new.at ≡ Some node }
-        ensures steps { visits.new.steps ≡ visits.old.steps };
+    /// Returns the value after the node at which the search stands. It reads no other node, so it takes no step.
+    fn fold_node<N: Nodes>(self, nodes: &N, node: u64, before: bool) -> Self
+        requires { N.is_node nodes.now node ≡ true }
+        ensures { result ≡ passed self node (N.cells nodes.now node).red before };
 }
 
 /// The result of a search: the folded value, and the steps.
@@ -52,20 +46,20 @@ pub fn descend<N: Nodes, K: PathFold>(
     ensures steps_exact { (t : Tree) → IsSearchTree (N.order nodes.now) (N.cells nodes.now) root t
         → result.steps ≡ path_length (N.before nodes.now probe.now) t }
 {
-    let mut visits = NodeCursor::new(nodes);
+    let mut visits = NodeCursor::new();
     let mut link = root;
     let mut folded = start;
     while let Some(node) = link {
-        let before = visits.before_probe(node, probe);
-        folded = folded.fold_node(&mut visits, node, before);
+        let before = visits.before_probe(nodes, node, probe);
+        folded = folded.fold_node(nodes, node, before);
         if before {
-            link = visits.right(node);
+            link = visits.child(nodes, node, Side::Right);
         } else {
-            link = visits.left(node);
+            link = visits.child(nodes, node, Side::Left);
         }
     }
     Descent {
         folded,
-        steps: visits.steps(),
+        steps: visits.steps,
     }
 }

@@ -10,7 +10,7 @@ ghost use Rattle.link_tree.specs.Ways.{insert_point_of};
 ghost use Rattle.link_tree.specs.Frame.{SameExceptCells};
 
 use crate::change_points::find_insert_point;
-use crate::cursor::{NodeCursorMut, Side};
+use crate::cursor::{NodeCursor, Side};
 use crate::nodes::NodesMut;
 use crate::rotation::{fix_double_red, paint};
 use crate::search_adaptors::SearchForNode;
@@ -25,79 +25,75 @@ pub struct TreeChange {
 }
 
 /// Gives the node this colour and sets both of its links to none.
-fn make_leaf<N: NodesMut>(visits: &mut NodeCursorMut<N>, node: u64, red: bool)
-    requires node { N.is_node visits.old.nodes.now node ≡ true }
+fn make_leaf<N: NodesMut>(nodes: &mut N, visits: &mut NodeCursor, node: u64, red: bool)
+    requires node { N.is_node nodes.old node ≡ true }
     requires no_overflow { visits.old.steps + 3 < 2 ^ 64 }
-    ensures layout { BecomesTree (N.cells visits.old.nodes.now) (N.cells visits.new.nodes.now) (node ∷ [])
+    ensures layout { BecomesTree (N.cells nodes.old) (N.cells nodes.new) (node ∷ [])
         (Some node) (fork red leaf node leaf) }
     ensures steps_upper { visits.new.steps ≤ visits.old.steps + 3 }
     ensures steps_lower { visits.old.steps ≤ visits.new.steps }
     ensures progress { visits.old.at ≡ None → visits.old.steps < visits.new.steps }
-    ensures same_borrow { visits.new.nodes.ghost_name ≡ visits.old.nodes.ghost_name }
-    ensures keeper { SameExceptCells N.Nodes visits.old.nodes.now visits.new.nodes.now }
+    ensures keeper { SameExceptCells N.Nodes nodes.old nodes.new }
 {
-    visits.set_child(node, Side::Left, None);
-    visits.set_child(node, Side::Right, None);
-    visits.set_red(node, red);
+    visits.set_child(nodes, node, Side::Left, None);
+    visits.set_child(nodes, node, Side::Right, None);
+    visits.set_red(nodes, node, red);
 }
 
 /// Inserts the node into the tree whose root is `at` and returns the root of the new tree.
-fn insert_below<N: NodesMut>(visits: &mut NodeCursorMut<N>, at: u64, node: u64) -> u64
-    requires top { N.is_node visits.old.nodes.now at ≡ true }
-    requires node { N.is_node visits.old.nodes.now node ≡ true }
-    requires tree { (t : Tree)
-        × CanInsert (N.order visits.old.nodes.now) (N.cells visits.old.nodes.now) (Some at) node t
+fn insert_below<N: NodesMut>(nodes: &mut N, visits: &mut NodeCursor, at: u64, node: u64) -> u64
+    requires top { N.is_node nodes.old at ≡ true }
+    requires node { N.is_node nodes.old node ≡ true }
+    requires tree { (t : Tree) × CanInsert (N.order nodes.old) (N.cells nodes.old) (Some at) node t
         × (visits.old.steps + 13 * height t + 16 < 2 ^ 64) }
-    ensures growth { (t : Tree)
-        → CanInsert (N.order visits.old.nodes.now) (N.cells visits.old.nodes.now) (Some at) node t
-        → BecomesTree (N.cells visits.old.nodes.now) (N.cells visits.new.nodes.now) (node ∷ nodes_of t)
-        (Some result) (after_insert (N.order visits.old.nodes.now) node t) }
-    ensures steps { (t : Tree)
-        → CanInsert (N.order visits.old.nodes.now) (N.cells visits.old.nodes.now) (Some at) node t
+    ensures growth { (t : Tree) → CanInsert (N.order nodes.old) (N.cells nodes.old) (Some at) node t
+        → BecomesTree (N.cells nodes.old) (N.cells nodes.new) (node ∷ nodes_of t)
+        (Some result) (after_insert (N.order nodes.old) node t) }
+    ensures steps { (t : Tree) → CanInsert (N.order nodes.old) (N.cells nodes.old) (Some at) node t
         → visits.new.steps ≤ visits.old.steps + 13 * height t + 3 }
-    ensures root { N.is_node visits.old.nodes.now result ≡ true }
+    ensures root { N.is_node nodes.old result ≡ true }
     ensures steps_lower { visits.old.steps ≤ visits.new.steps }
     ensures progress { visits.old.at ≡ None → visits.old.steps < visits.new.steps }
-    ensures same_borrow { visits.new.nodes.ghost_name ≡ visits.old.nodes.ghost_name }
-    ensures keeper { SameExceptCells N.Nodes visits.old.nodes.now visits.new.nodes.now }
+    ensures keeper { SameExceptCells N.Nodes nodes.old nodes.new }
 {
-    let way = visits.toward(node, at);
+    let way = visits.toward(nodes, node, at);
     let Some(next) = way.link else {
         // a red leaf has no red child, so nothing is repaired
-        make_leaf(visits, node, true);
-        visits.set_child(at, way.side, Some(node));
+        make_leaf(nodes, visits, node, true);
+        visits.set_child(nodes, at, way.side, Some(node));
         return at;
     };
-    let child = insert_below(visits, next, node);
-    visits.set_child(at, way.side, Some(child));
-    fix_double_red(visits, at, way.side)
+    let child = insert_below(nodes, visits, next, node);
+    visits.set_child(nodes, at, way.side, Some(child));
+    fix_double_red(nodes, visits, at, way.side)
 }
 
 /// Inserts the node into the tree behind the link and returns the root of the new tree.
-fn insert_behind<N: NodesMut>(visits: &mut NodeCursorMut<N>, link: Option<u64>, node: u64) -> u64
-    requires link { leads (N.is_node visits.old.nodes.now) link ≡ true }
-    requires node { N.is_node visits.old.nodes.now node ≡ true }
-    requires tree { (t : Tree)
-        × CanInsert (N.order visits.old.nodes.now) (N.cells visits.old.nodes.now) link node t
+fn insert_behind<N: NodesMut>(
+    nodes: &mut N,
+    visits: &mut NodeCursor,
+    link: Option<u64>,
+    node: u64,
+) -> u64
+    requires link { leads (N.is_node nodes.old) link ≡ true }
+    requires node { N.is_node nodes.old node ≡ true }
+    requires tree { (t : Tree) × CanInsert (N.order nodes.old) (N.cells nodes.old) link node t
         × (visits.old.steps + 13 * height t + 16 < 2 ^ 64) }
-    ensures growth { (t : Tree)
-        → CanInsert (N.order visits.old.nodes.now) (N.cells visits.old.nodes.now) link node t
-        → BecomesTree (N.cells visits.old.nodes.now) (N.cells visits.new.nodes.now) (node ∷ nodes_of t)
-        (Some result) (after_insert (N.order visits.old.nodes.now) node t) }
-    ensures steps { (t : Tree)
-        → CanInsert (N.order visits.old.nodes.now) (N.cells visits.old.nodes.now) link node t
+    ensures growth { (t : Tree) → CanInsert (N.order nodes.old) (N.cells nodes.old) link node t
+        → BecomesTree (N.cells nodes.old) (N.cells nodes.new) (node ∷ nodes_of t)
+        (Some result) (after_insert (N.order nodes.old) node t) }
+    ensures steps { (t : Tree) → CanInsert (N.order nodes.old) (N.cells nodes.old) link node t
         → visits.new.steps ≤ visits.old.steps + 13 * height t + 3 }
-    ensures root { N.is_node visits.old.nodes.now result ≡ true }
+    ensures root { N.is_node nodes.old result ≡ true }
     ensures steps_lower { visits.old.steps ≤ visits.new.steps }
     ensures progress { visits.old.at ≡ None → visits.old.steps < visits.new.steps }
-    ensures same_borrow { visits.new.nodes.ghost_name ≡ visits.old.nodes.ghost_name }
-    ensures keeper { SameExceptCells N.Nodes visits.old.nodes.now visits.new.nodes.now }
+    ensures keeper { SameExceptCells N.Nodes nodes.old nodes.new }
 {
     let Some(at) = link else {
-        make_leaf(visits, node, true);
+        make_leaf(nodes, visits, node, true);
         return node;
     };
-    insert_below(visits, at, node)
+    insert_below(nodes, visits, at, node)
 }
 
 /// Inserts the node, beginning at the `entry` that `find_entry` returned.
@@ -135,29 +131,29 @@ pub fn insert_at<N: NodesMut>(
     // state stay.
     ensures keeper { SameExceptCells N.Nodes nodes.old nodes.new }
 {
-    let mut visits = NodeCursorMut::new(nodes);
+    let mut visits = NodeCursor::new();
     if let Some(start) = entry {
         // the insertion leaves no red node under a red one below `start`, so `start` needs no repair
-        let way = visits.toward(node, start);
-        let child = insert_behind(&mut visits, way.link, node);
-        visits.set_child(start, way.side, Some(child));
+        let way = visits.toward(nodes, node, start);
+        let child = insert_behind(nodes, &mut visits, way.link, node);
+        visits.set_child(nodes, start, way.side, Some(child));
         return TreeChange {
             root,
-            steps: visits.steps(),
+            steps: visits.steps,
         };
     }
     let Some(top) = root else {
-        make_leaf(&mut visits, node, false);
+        make_leaf(nodes, &mut visits, node, false);
         return TreeChange {
             root: Some(node),
-            steps: visits.steps(),
+            steps: visits.steps,
         };
     };
-    let risen = insert_below(&mut visits, top, node);
-    paint(&mut visits, Some(risen), false);
+    let risen = insert_below(nodes, &mut visits, top, node);
+    paint(nodes, &mut visits, Some(risen), false);
     TreeChange {
         root: Some(risen),
-        steps: visits.steps(),
+        steps: visits.steps,
     }
 }
 

@@ -1,13 +1,12 @@
 //! Lists the nodes of a tree in order, from a probe on.
 
-ghost use Rattle.std.specs.Prelude.{◌≡◌, ℕ, ◌+◌, ◌*◌, ◌<◌, ◌≤◌, ◌^◌, Bool, true, false, Option, Some, List, length};
-ghost use Rattle.std.specs.Prelude.{min};
+ghost use Rattle.std.specs.Prelude.{◌≡◌, ◌+◌, ◌*◌, ◌<◌, ◌≤◌, ◌^◌, true, false, Option, Some, length, min};
 ghost use Rattle.link_tree.specs.Tree.{Tree, IsSearchTree, nodes_of, bits};
 ghost use Rattle.link_tree.specs.Nodes.{leads};
 ghost use Rattle.link_tree.specs.Listing.{IsLowSearchTree, Lists, filled, nodes_from};
 
 use crate::checking::MAX_HEIGHT;
-use crate::cursor::NodeCursor;
+use crate::cursor::{NodeCursor, Side};
 use crate::nodes::Nodes;
 
 /// The result of a listing: how many nodes the list has, and the number of steps.
@@ -22,23 +21,21 @@ pub struct Listing {
 /// Appends the nodes behind the link, down to `levels` levels, to a list that has `count` nodes so far. Returns its new
 /// count.
 fn list_below<N: Nodes>(
-    visits: &mut NodeCursor<N>,
+    nodes: &N,
+    visits: &mut NodeCursor,
     link: Option<u64>,
     list: &mut [u64],
     count: usize,
     levels: u64,
 ) -> usize
-    requires link { leads (N.is_node visits.old.nodes.now) link ≡ true }
+    requires link { leads (N.is_node nodes.now) link ≡ true }
     requires count { count ≤ length list.old }
-    requires tree { (t : Tree)
-        × IsLowSearchTree (N.order visits.old.nodes.now) (N.cells visits.old.nodes.now) link levels t
+    requires tree { (t : Tree) × IsLowSearchTree (N.order nodes.now) (N.cells nodes.now) link levels t
         × (visits.old.steps + length (nodes_of t) + 1 < 2 ^ 64) }
     // It lists as if no node preceded a probe.
-    ensures listing { (t : Tree)
-        → IsLowSearchTree (N.order visits.old.nodes.now) (N.cells visits.old.nodes.now) link levels t
+    ensures listing { (t : Tree) → IsLowSearchTree (N.order nodes.now) (N.cells nodes.now) link levels t
         → Lists (λ _. false) t list.old count list.new result visits.old.steps visits.new.steps }
     ensures in_bounds { result ≤ length list.new }
-    ensures nodes { visits.new.nodes.now ≡ visits.old.nodes.now }
 {
     let Some(node) = link else {
         return count;
@@ -46,51 +43,48 @@ fn list_below<N: Nodes>(
     if count == list.len() {
         return count;
     }
-    let left = visits.left(node);
-    let right = visits.right(node);
-    let listed = list_below(visits, left, list, count, levels - 1);
+    let left = visits.child(nodes, node, Side::Left);
+    let right = visits.child(nodes, node, Side::Right);
+    let listed = list_below(nodes, visits, left, list, count, levels - 1);
     if listed == list.len() {
         return listed;
     }
     list[listed] = node;
-    list_below(visits, right, list, listed + 1, levels - 1)
+    list_below(nodes, visits, right, list, listed + 1, levels - 1)
 }
 
 /// Writes the nodes behind the link that do not precede the probe to the first places of the list, down to `levels`
 /// levels. Returns how many it wrote. It compares only nodes of the path to the first of them.
 fn list_from<N: Nodes>(
-    visits: &mut NodeCursor<N>,
+    nodes: &N,
+    visits: &mut NodeCursor,
     link: Option<u64>,
     probe: &N::Probe,
     list: &mut [u64],
     levels: u64,
 ) -> usize
-    requires link { leads (N.is_node visits.old.nodes.now) link ≡ true }
-    requires tree { (t : Tree)
-        × IsLowSearchTree (N.order visits.old.nodes.now) (N.cells visits.old.nodes.now) link levels t
+    requires link { leads (N.is_node nodes.now) link ≡ true }
+    requires tree { (t : Tree) × IsLowSearchTree (N.order nodes.now) (N.cells nodes.now) link levels t
         × (visits.old.steps + length (nodes_of t) + 1 < 2 ^ 64) }
-    ensures listing { (t : Tree)
-        → IsLowSearchTree (N.order visits.old.nodes.now) (N.cells visits.old.nodes.now) link levels t
-        → Lists (N.before visits.old.nodes.now probe.now) t list.old 0 list.new result visits.old.steps
-        visits.new.steps }
+    ensures listing { (t : Tree) → IsLowSearchTree (N.order nodes.now) (N.cells nodes.now) link levels t
+        → Lists (N.before nodes.now probe.now) t list.old 0 list.new result visits.old.steps visits.new.steps }
     ensures in_bounds { result ≤ length list.new }
-    ensures nodes { visits.new.nodes.now ≡ visits.old.nodes.now }
 {
     let Some(node) = link else {
         return 0;
     };
-    let before = visits.before_probe(node, probe);
-    let right = visits.right(node);
+    let before = visits.before_probe(nodes, node, probe);
+    let right = visits.child(nodes, node, Side::Right);
     if before {
-        return list_from(visits, right, probe, list, levels - 1);
+        return list_from(nodes, visits, right, probe, list, levels - 1);
     }
-    let left = visits.left(node);
-    let listed = list_from(visits, left, probe, list, levels - 1);
+    let left = visits.child(nodes, node, Side::Left);
+    let listed = list_from(nodes, visits, left, probe, list, levels - 1);
     if listed == list.len() {
         return listed;
     }
     list[listed] = node;
-    list_below(visits, right, list, listed + 1, levels - 1)
+    list_below(nodes, visits, right, list, listed + 1, levels - 1)
 }
 
 /// Writes the nodes that do not precede the probe to the list, in order from the first one on, as many as the list has
@@ -113,10 +107,10 @@ pub fn list_nodes_from<N: Nodes>(
     ensures steps { (t : Tree) → IsSearchTree (N.order nodes.now) (N.cells nodes.now) root t
         → result.steps ≤ result.count + 4 * bits (length (nodes_of t) + 1) }
 {
-    let mut visits = NodeCursor::new(nodes);
-    let count = list_from(&mut visits, root, probe, list, MAX_HEIGHT);
+    let mut visits = NodeCursor::new();
+    let count = list_from(nodes, &mut visits, root, probe, list, MAX_HEIGHT);
     Listing {
         count,
-        steps: visits.steps(),
+        steps: visits.steps,
     }
 }

@@ -5,13 +5,12 @@ ghost use Rattle.std.specs.Prelude.{length, IfSome, IsTrue};
 ghost use Rattle.link_tree.specs.Tree.{Cell, Tree, IsTree, IsSearchTree, nodes_of, is_sorted, height, bits};
 ghost use Rattle.link_tree.specs.Nodes.{leads, is_in, without};
 ghost use Rattle.link_tree.specs.Sides.{opposite, child_of, joined_at};
-ghost use Rattle.link_tree.specs.Turning.{BecomesTree};
 ghost use Rattle.link_tree.specs.Shrinking.{RemovedSubtree, IsOrderedTree, RemovesTo, mended, settled, sunk, least_of};
 ghost use Rattle.link_tree.specs.Shrinking.{without_least, uprooted, after_remove, spare};
 ghost use Rattle.link_tree.specs.Ways.{remove_point_of};
 ghost use Rattle.link_tree.specs.Frame.{SameExceptCells};
 
-use crate::cursor::{NodeCursorMut, Side};
+use crate::cursor::{NodeCursor, Side};
 use crate::insertion::TreeChange;
 use crate::nodes::NodesMut;
 use crate::rotation::{fix_double_red, is_red, paint, rotate};
@@ -30,70 +29,44 @@ struct Least {
     rest: Leftover,
 }
 
-/// Rebalances as `mend` does, if the heavy child is red: the heavy child's inner child gives up a black node.
-fn mend_red<N: NodesMut>(
-    visits: &mut NodeCursorMut<N>,
-    top: u64,
-    heavy: u64,
-    side: Side,
-) -> Leftover
-    requires node { N.is_node visits.old.nodes.now top ≡ true }
-    requires child { child_of side (N.cells visits.old.nodes.now top) ≡ Some heavy }
-    requires red { (N.cells visits.old.nodes.now heavy).red ≡ true }
-    requires no_overflow { visits.old.steps + 20 < 2 ^ 64 }
-    ensures repair { (t : Tree) → IsTree (N.cells visits.old.nodes.now) (Some top) t
-        → is_sorted (N.order visits.old.nodes.now) (nodes_of t) ≡ true
-        → RemovesTo (N.cells visits.old.nodes.now) (N.cells visits.new.nodes.now)
-        (nodes_of t) result.root result.fell (mended side t) }
-    ensures height { result.fell ≡ false }
-    ensures root { leads (N.is_node visits.old.nodes.now) result.root ≡ true }
-    ensures steps_upper { visits.new.steps ≤ visits.old.steps + 18 }
-    ensures steps_lower { visits.old.steps ≤ visits.new.steps }
-    ensures same_borrow { visits.new.nodes.ghost_name ≡ visits.old.nodes.ghost_name }
-    ensures keeper { SameExceptCells N.Nodes visits.old.nodes.now visits.new.nodes.now }
-{
-    rotate(visits, top, side);
-    visits.set_red(heavy, false);
-    let inner = visits.child(top, side);
-    paint(visits, inner, true);
-    let root = fix_double_red(visits, top, side);
-    visits.set_child(heavy, side.other(), Some(root));
-    Leftover {
-        root: Some(heavy),
-        fell: false,
-    }
-}
-
 /// Moves a black node from this side, the heavy one, to the other side of `top` if that side lost one.
 ///
 /// Jean-Christophe Filliâtre and Pierre Letouzey, Functors for Proofs and Programs, 2004.
-fn mend<N: NodesMut>(visits: &mut NodeCursorMut<N>, top: u64, side: Side) -> Leftover
-    requires node { N.is_node visits.old.nodes.now top ≡ true }
+fn mend<N: NodesMut>(nodes: &mut N, visits: &mut NodeCursor, top: u64, side: Side) -> Leftover
+    requires node { N.is_node nodes.old top ≡ true }
     requires position { visits.old.at ≡ Some top }
     requires no_overflow { visits.old.steps + 22 < 2 ^ 64 }
-    ensures repair { (t : Tree) → IsTree (N.cells visits.old.nodes.now) (Some top) t
-        → is_sorted (N.order visits.old.nodes.now) (nodes_of t) ≡ true
-        → RemovesTo (N.cells visits.old.nodes.now) (N.cells visits.new.nodes.now)
-        (nodes_of t) result.root result.fell (mended side t) }
-    ensures root { leads (N.is_node visits.old.nodes.now) result.root ≡ true }
+    ensures repair { (t : Tree) → IsTree (N.cells nodes.old) (Some top) t
+        → is_sorted (N.order nodes.old) (nodes_of t) ≡ true
+        → RemovesTo (N.cells nodes.old) (N.cells nodes.new) (nodes_of t) result.root result.fell (mended side t) }
+    ensures root { leads (N.is_node nodes.old) result.root ≡ true }
     ensures steps { visits.new.steps + spare result.fell ≤ visits.old.steps + 19 }
     ensures steps_lower { visits.old.steps ≤ visits.new.steps }
-    ensures same_borrow { visits.new.nodes.ghost_name ≡ visits.old.nodes.ghost_name }
-    ensures keeper { SameExceptCells N.Nodes visits.old.nodes.now visits.new.nodes.now }
+    ensures keeper { SameExceptCells N.Nodes nodes.old nodes.new }
 {
-    let Some(heavy) = visits.child(top, side) else {
+    let Some(heavy) = visits.child(nodes, top, side) else {
         return Leftover {
             root: Some(top),
             fell: false,
         };
     };
-    let red = visits.red(top);
-    if visits.red(heavy) {
-        return mend_red(visits, top, heavy, side);
+    let red = visits.red(nodes, top);
+    if visits.red(nodes, heavy) {
+        // the heavy child's inner child gives up a black node
+        rotate(nodes, visits, top, side);
+        visits.set_red(nodes, heavy, false);
+        let inner = visits.child(nodes, top, side);
+        paint(nodes, visits, inner, true);
+        let low = fix_double_red(nodes, visits, top, side);
+        visits.set_child(nodes, heavy, side.other(), Some(low));
+        return Leftover {
+            root: Some(heavy),
+            fell: false,
+        };
     }
-    visits.set_red(heavy, true);
-    visits.set_red(top, false);
-    let root = fix_double_red(visits, top, side);
+    visits.set_red(nodes, heavy, true);
+    visits.set_red(nodes, top, false);
+    let root = fix_double_red(nodes, visits, top, side);
     Leftover {
         root: Some(root),
         fell: !red,
@@ -102,34 +75,30 @@ fn mend<N: NodesMut>(visits: &mut NodeCursorMut<N>, top: u64, side: Side) -> Lef
 
 /// Links the changed subtree to its parent on this side, and rebalances the parent.
 fn settle<N: NodesMut>(
-    visits: &mut NodeCursorMut<N>,
+    nodes: &mut N,
+    visits: &mut NodeCursor,
     parent: u64,
     side: Side,
     below: Leftover,
 ) -> Leftover
-    requires node { N.is_node visits.old.nodes.now parent ≡ true }
-    requires subtree { leads (N.is_node visits.old.nodes.now) below.root ≡ true }
+    requires node { N.is_node nodes.old parent ≡ true }
+    requires subtree { leads (N.is_node nodes.old) below.root ≡ true }
     requires no_overflow { visits.old.steps + 23 < 2 ^ 64 }
-    ensures settled { (near far : Tree) → IsTree (N.cells visits.old.nodes.now) below.root near
-        → IsTree (N.cells visits.old.nodes.now)
-        (child_of (opposite side) (N.cells visits.old.nodes.now parent)) far
-        → is_sorted (N.order visits.old.nodes.now)
-        (nodes_of (joined_at side (N.cells visits.old.nodes.now parent).red near parent far)) ≡ true
-        → RemovesTo (N.cells visits.old.nodes.now) (N.cells visits.new.nodes.now)
-        (nodes_of (joined_at side (N.cells visits.old.nodes.now parent).red near parent far))
-        result.root result.fell
-        (settled side (N.cells visits.old.nodes.now parent).red
-        (record { tree = near; fell = below.fell }) parent far) }
-    ensures root { leads (N.is_node visits.old.nodes.now) result.root ≡ true }
-    ensures steps { visits.new.steps + spare result.fell ≤ visits.old.steps + 13
-        + spare below.fell }
+    ensures settled { (near far : Tree) → IsTree (N.cells nodes.old) below.root near
+        → IsTree (N.cells nodes.old) (child_of (opposite side) (N.cells nodes.old parent)) far
+        → is_sorted (N.order nodes.old)
+        (nodes_of (joined_at side (N.cells nodes.old parent).red near parent far)) ≡ true
+        → RemovesTo (N.cells nodes.old) (N.cells nodes.new)
+        (nodes_of (joined_at side (N.cells nodes.old parent).red near parent far)) result.root result.fell
+        (settled side (N.cells nodes.old parent).red (record { tree = near; fell = below.fell }) parent far) }
+    ensures root { leads (N.is_node nodes.old) result.root ≡ true }
+    ensures steps { visits.new.steps + spare result.fell ≤ visits.old.steps + 13 + spare below.fell }
     ensures steps_lower { visits.old.steps ≤ visits.new.steps }
-    ensures same_borrow { visits.new.nodes.ghost_name ≡ visits.old.nodes.ghost_name }
-    ensures keeper { SameExceptCells N.Nodes visits.old.nodes.now visits.new.nodes.now }
+    ensures keeper { SameExceptCells N.Nodes nodes.old nodes.new }
 {
-    visits.set_child(parent, side, below.root);
+    visits.set_child(nodes, parent, side, below.root);
     if below.fell {
-        return mend(visits, parent, side.other());
+        return mend(nodes, visits, parent, side.other());
     }
     Leftover {
         root: Some(parent),
@@ -138,19 +107,22 @@ fn settle<N: NodesMut>(
 }
 
 /// Replaces a node of this colour, which has only one subtree, by that subtree.
-fn sink<N: NodesMut>(visits: &mut NodeCursorMut<N>, red: bool, link: Option<u64>) -> Leftover
-    requires link { leads (N.is_node visits.old.nodes.now) link ≡ true }
+fn sink<N: NodesMut>(
+    nodes: &mut N,
+    visits: &mut NodeCursor,
+    red: bool,
+    link: Option<u64>,
+) -> Leftover
+    requires link { leads (N.is_node nodes.old) link ≡ true }
     requires no_overflow { visits.old.steps + 2 < 2 ^ 64 }
-    ensures descent { (t : Tree) → IsTree (N.cells visits.old.nodes.now) link t
-        → is_sorted (N.order visits.old.nodes.now) (nodes_of t) ≡ true
-        → RemovesTo (N.cells visits.old.nodes.now) (N.cells visits.new.nodes.now)
-        (nodes_of t) result.root result.fell (sunk red t) }
-    ensures root { leads (N.is_node visits.old.nodes.now) result.root ≡ true }
+    ensures descent { (t : Tree) → IsTree (N.cells nodes.old) link t
+        → is_sorted (N.order nodes.old) (nodes_of t) ≡ true
+        → RemovesTo (N.cells nodes.old) (N.cells nodes.new) (nodes_of t) result.root result.fell (sunk red t) }
+    ensures root { leads (N.is_node nodes.old) result.root ≡ true }
     // If the tree lost a black node, `spare` steps remain for the repair one level up.
     ensures steps { visits.new.steps + spare result.fell ≤ visits.old.steps + 9 }
     ensures steps_lower { visits.old.steps ≤ visits.new.steps }
-    ensures same_borrow { visits.new.nodes.ghost_name ≡ visits.old.nodes.ghost_name }
-    ensures keeper { SameExceptCells N.Nodes visits.old.nodes.now visits.new.nodes.now }
+    ensures keeper { SameExceptCells N.Nodes nodes.old nodes.new }
 {
     if red {
         return Leftover {
@@ -158,8 +130,8 @@ fn sink<N: NodesMut>(visits: &mut NodeCursorMut<N>, red: bool, link: Option<u64>
             fell: false,
         };
     }
-    if is_red(visits, link) {
-        paint(visits, link, false);
+    if is_red(nodes, visits, link) {
+        paint(nodes, visits, link, false);
         return Leftover {
             root: link,
             fell: false,
@@ -172,93 +144,84 @@ fn sink<N: NodesMut>(visits: &mut NodeCursorMut<N>, red: bool, link: Option<u64>
 }
 
 /// Removes the first node from the tree below `at`.
-fn take_least<N: NodesMut>(visits: &mut NodeCursorMut<N>, at: u64) -> Least
-    requires node { N.is_node visits.old.nodes.now at ≡ true }
+fn take_least<N: NodesMut>(nodes: &mut N, visits: &mut NodeCursor, at: u64) -> Least
+    requires node { N.is_node nodes.old at ≡ true }
     // The way down to the node is then one step, which pays for the work at the node on the way back.
     requires exclusive { visits.old.at ≢ Some at }
-    requires tree { (t : Tree)
-        × IsOrderedTree (N.order visits.old.nodes.now) (N.cells visits.old.nodes.now) (Some at) t
+    requires tree { (t : Tree) × IsOrderedTree (N.order nodes.old) (N.cells nodes.old) (Some at) t
         × (visits.old.steps + 14 * height t + 40 < 2 ^ 64) }
-    ensures node { (t : Tree)
-        → IsOrderedTree (N.order visits.old.nodes.now) (N.cells visits.old.nodes.now) (Some at) t
+    ensures node { (t : Tree) → IsOrderedTree (N.order nodes.old) (N.cells nodes.old) (Some at) t
         → result.node ≡ least_of at t }
-    ensures rest { (t : Tree)
-        → IsOrderedTree (N.order visits.old.nodes.now) (N.cells visits.old.nodes.now) (Some at) t
-        → RemovesTo (N.cells visits.old.nodes.now) (N.cells visits.new.nodes.now)
+    ensures rest { (t : Tree) → IsOrderedTree (N.order nodes.old) (N.cells nodes.old) (Some at) t
+        → RemovesTo (N.cells nodes.old) (N.cells nodes.new)
         (nodes_of t) result.rest.root result.rest.fell (without_least t) }
-    ensures steps { (t : Tree)
-        → IsOrderedTree (N.order visits.old.nodes.now) (N.cells visits.old.nodes.now) (Some at) t
+    ensures steps { (t : Tree) → IsOrderedTree (N.order nodes.old) (N.cells nodes.old) (Some at) t
         → visits.new.steps + spare result.rest.fell ≤ visits.old.steps + 14 * height t + 9 }
-    ensures is_node { N.is_node visits.old.nodes.now result.node ≡ true }
-    ensures root { leads (N.is_node visits.old.nodes.now) result.rest.root ≡ true }
+    ensures is_node { N.is_node nodes.old result.node ≡ true }
+    ensures root { leads (N.is_node nodes.old) result.rest.root ≡ true }
     ensures steps_lower { visits.old.steps ≤ visits.new.steps }
-    ensures same_borrow { visits.new.nodes.ghost_name ≡ visits.old.nodes.ghost_name }
-    ensures keeper { SameExceptCells N.Nodes visits.old.nodes.now visits.new.nodes.now }
+    ensures keeper { SameExceptCells N.Nodes nodes.old nodes.new }
 {
-    let Some(left) = visits.child(at, Side::Left) else {
-        let red = visits.red(at);
-        let right = visits.child(at, Side::Right);
+    let Some(left) = visits.child(nodes, at, Side::Left) else {
+        let red = visits.red(nodes, at);
+        let right = visits.child(nodes, at, Side::Right);
         return Least {
             node: at,
-            rest: sink(visits, red, right),
+            rest: sink(nodes, visits, red, right),
         };
     };
-    let below = take_least(visits, left);
+    let below = take_least(nodes, visits, left);
     Least {
         node: below.node,
-        rest: settle(visits, at, Side::Left, below.rest),
+        rest: settle(nodes, visits, at, Side::Left, below.rest),
     }
 }
 
 /// Removes the root of a tree. The next node takes its place by links; no node is copied.
-fn uproot<N: NodesMut>(visits: &mut NodeCursorMut<N>, at: u64) -> Leftover
-    requires node { N.is_node visits.old.nodes.now at ≡ true }
-    requires tree { (t : Tree)
-        × IsOrderedTree (N.order visits.old.nodes.now) (N.cells visits.old.nodes.now) (Some at) t
+fn uproot<N: NodesMut>(nodes: &mut N, visits: &mut NodeCursor, at: u64) -> Leftover
+    requires node { N.is_node nodes.old at ≡ true }
+    requires tree { (t : Tree) × IsOrderedTree (N.order nodes.old) (N.cells nodes.old) (Some at) t
         × (visits.old.steps + 15 * height t + 60 < 2 ^ 64) }
-    ensures rest { (t : Tree)
-        → IsOrderedTree (N.order visits.old.nodes.now) (N.cells visits.old.nodes.now) (Some at) t
-        → RemovesTo (N.cells visits.old.nodes.now) (N.cells visits.new.nodes.now)
-        (nodes_of t) result.root result.fell (uprooted t) }
-    ensures steps { (t : Tree)
-        → IsOrderedTree (N.order visits.old.nodes.now) (N.cells visits.old.nodes.now) (Some at) t
+    ensures rest { (t : Tree) → IsOrderedTree (N.order nodes.old) (N.cells nodes.old) (Some at) t
+        → RemovesTo (N.cells nodes.old) (N.cells nodes.new) (nodes_of t) result.root result.fell (uprooted t) }
+    ensures steps { (t : Tree) → IsOrderedTree (N.order nodes.old) (N.cells nodes.old) (Some at) t
         → visits.new.steps + spare result.fell ≤ visits.old.steps + 15 * height t + 10 }
-    ensures root { leads (N.is_node visits.old.nodes.now) result.root ≡ true }
+    ensures root { leads (N.is_node nodes.old) result.root ≡ true }
     ensures steps_lower { visits.old.steps ≤ visits.new.steps }
     ensures progress { visits.old.at ≡ None → visits.old.steps < visits.new.steps }
-    ensures same_borrow { visits.new.nodes.ghost_name ≡ visits.old.nodes.ghost_name }
-    ensures keeper { SameExceptCells N.Nodes visits.old.nodes.now visits.new.nodes.now }
+    ensures keeper { SameExceptCells N.Nodes nodes.old nodes.new }
 {
-    let red = visits.red(at);
-    let left = visits.child(at, Side::Left);
-    let Some(right) = visits.child(at, Side::Right) else {
-        return sink(visits, red, left);
+    let red = visits.red(nodes, at);
+    let left = visits.child(nodes, at, Side::Left);
+    let Some(right) = visits.child(nodes, at, Side::Right) else {
+        return sink(nodes, visits, red, left);
     };
-    let next = take_least(visits, right);
-    visits.set_child(next.node, Side::Left, left);
-    visits.set_red(next.node, red);
-    settle(visits, next.node, Side::Right, next.rest)
+    let next = take_least(nodes, visits, right);
+    visits.set_child(nodes, next.node, Side::Left, left);
+    visits.set_red(nodes, next.node, red);
+    settle(nodes, visits, next.node, Side::Right, next.rest)
 }
 
 /// Removes the node from the tree behind the link.
-fn cut<N: NodesMut>(visits: &mut NodeCursorMut<N>, link: Option<u64>, node: u64) -> Leftover
-    requires link { leads (N.is_node visits.old.nodes.now) link ≡ true }
-    requires node { N.is_node visits.old.nodes.now node ≡ true }
-    requires tree { (t : Tree)
-        × IsOrderedTree (N.order visits.old.nodes.now) (N.cells visits.old.nodes.now) link t
+fn cut<N: NodesMut>(
+    nodes: &mut N,
+    visits: &mut NodeCursor,
+    link: Option<u64>,
+    node: u64,
+) -> Leftover
+    requires link { leads (N.is_node nodes.old) link ≡ true }
+    requires node { N.is_node nodes.old node ≡ true }
+    requires tree { (t : Tree) × IsOrderedTree (N.order nodes.old) (N.cells nodes.old) link t
         × (visits.old.steps + 15 * height t + 60 < 2 ^ 64) }
-    ensures rest { (t : Tree)
-        → IsOrderedTree (N.order visits.old.nodes.now) (N.cells visits.old.nodes.now) link t
-        → RemovesTo (N.cells visits.old.nodes.now) (N.cells visits.new.nodes.now)
-        (nodes_of t) result.root result.fell (after_remove (N.order visits.old.nodes.now) node t) }
-    ensures steps { (t : Tree)
-        → IsOrderedTree (N.order visits.old.nodes.now) (N.cells visits.old.nodes.now) link t
+    ensures rest { (t : Tree) → IsOrderedTree (N.order nodes.old) (N.cells nodes.old) link t
+        → RemovesTo (N.cells nodes.old) (N.cells nodes.new)
+        (nodes_of t) result.root result.fell (after_remove (N.order nodes.old) node t) }
+    ensures steps { (t : Tree) → IsOrderedTree (N.order nodes.old) (N.cells nodes.old) link t
         → visits.new.steps + spare result.fell ≤ visits.old.steps + 15 * height t + 10 }
-    ensures root { leads (N.is_node visits.old.nodes.now) result.root ≡ true }
+    ensures root { leads (N.is_node nodes.old) result.root ≡ true }
     ensures steps_lower { visits.old.steps ≤ visits.new.steps }
     ensures progress { visits.old.at ≡ None → link ≢ None → visits.old.steps < visits.new.steps }
-    ensures same_borrow { visits.new.nodes.ghost_name ≡ visits.old.nodes.ghost_name }
-    ensures keeper { SameExceptCells N.Nodes visits.old.nodes.now visits.new.nodes.now }
+    ensures keeper { SameExceptCells N.Nodes nodes.old nodes.new }
 {
     let Some(at) = link else {
         return Leftover {
@@ -267,11 +230,11 @@ fn cut<N: NodesMut>(visits: &mut NodeCursorMut<N>, link: Option<u64>, node: u64)
         };
     };
     if at == node {
-        return uproot(visits, at);
+        return uproot(nodes, visits, at);
     }
-    let way = visits.toward(node, at);
-    let below = cut(visits, way.link, node);
-    settle(visits, at, way.side, below)
+    let way = visits.toward(nodes, node, at);
+    let below = cut(nodes, visits, way.link, node);
+    settle(nodes, visits, at, way.side, below)
 }
 
 /// Removes the node, beginning at the `exit` that `find_remove_point` returned.
@@ -306,19 +269,19 @@ pub fn remove_at<N: NodesMut>(
     // state stay.
     ensures keeper { SameExceptCells N.Nodes nodes.old nodes.new }
 {
-    let mut visits = NodeCursorMut::new(nodes);
+    let mut visits = NodeCursor::new();
     if let Some(start) = exit {
-        cut(&mut visits, Some(start), node);
+        cut(nodes, &mut visits, Some(start), node);
         return TreeChange {
             root,
-            steps: visits.steps(),
+            steps: visits.steps,
         };
     }
-    let rest = cut(&mut visits, root, node);
-    paint(&mut visits, rest.root, false);
+    let rest = cut(nodes, &mut visits, root, node);
+    paint(nodes, &mut visits, rest.root, false);
     TreeChange {
         root: rest.root,
-        steps: visits.steps(),
+        steps: visits.steps,
     }
 }
 

@@ -7,7 +7,6 @@ ghost use Rattle.link_tree.specs.Tree.{Tree, IsSearchTree, nodes_of, bits};
 ghost use Rattle.link_tree.specs.Nodes.{leads, first_not_before, last_before};
 ghost use Rattle.link_tree.specs.Searching.{path_length};
 
-use crate::cursor::NodeCursor;
 use crate::descending::{PathFold, descend};
 use crate::nodes::Nodes;
 use crate::search_adaptors::SearchToEnd;
@@ -30,7 +29,7 @@ struct First {
 impl PathFold for First {
     ghost passed = { λ folded n red before. record { node = if before then folded.node else Some n } };
 
-    fn fold_node<N: Nodes>(self, _visits: &mut NodeCursor<N>, node: u64, before: bool) -> First {
+    fn fold_node<N: Nodes>(self, _nodes: &N, node: u64, before: bool) -> First {
         if before {
             return self;
         }
@@ -47,7 +46,7 @@ struct Last {
 impl PathFold for Last {
     ghost passed = { λ folded n red before. record { node = if before then Some n else folded.node } };
 
-    fn fold_node<N: Nodes>(self, _visits: &mut NodeCursor<N>, node: u64, before: bool) -> Last {
+    fn fold_node<N: Nodes>(self, _nodes: &N, node: u64, before: bool) -> Last {
         if before {
             return Last { node: Some(node) };
         }

@@ -7,46 +7,38 @@ ghost use Rattle.link_tree.specs.Nodes.{leads, is_in};
 ghost use Rattle.link_tree.specs.Walking.{IsAhead};
 
 use crate::checking::MAX_HEIGHT;
-use crate::cursor::NodeCursor;
+use crate::cursor::{NodeCursor, Side};
 use crate::nodes::Nodes;
 
 /// Visits the nodes behind the link in order, down to `levels` levels.
 fn walk_below<N: Nodes, F: FnMut(u64)>(
-    visits: &mut NodeCursor<N>,
+    nodes: &N,
+    visits: &mut NodeCursor,
     link: Option<u64>,
     visit: &mut F,
     levels: u64,
 )
     requires callable { F.IsAlwaysCallable visit.old }
-    requires link { leads (N.is_node visits.old.nodes.now) link ≡ true }
-    requires tree { (t : Tree)
-        × IsAhead (N.order visits.old.nodes.now) (N.cells visits.old.nodes.now)
-        link levels visits.old.at t
+    requires link { leads (N.is_node nodes.now) link ≡ true }
+    requires tree { (t : Tree) × IsAhead (N.order nodes.now) (N.cells nodes.now) link levels visits.old.at t
         × (visits.old.steps + length (nodes_of t) + 1 < 2 ^ 64) }
-    ensures walk { (t : Tree)
-        → IsAhead (N.order visits.old.nodes.now) (N.cells visits.old.nodes.now)
-        link levels visits.old.at t
+    ensures walk { (t : Tree) → IsAhead (N.order nodes.now) (N.cells nodes.now) link levels visits.old.at t
         → FoldsTo (λ p x q. F.step p x tt q) visit.old (nodes_of t) visit.new }
     ensures callable { F.IsAlwaysCallable visit.new }
-    ensures steps { (t : Tree)
-        → IsAhead (N.order visits.old.nodes.now) (N.cells visits.old.nodes.now)
-        link levels visits.old.at t
+    ensures steps { (t : Tree) → IsAhead (N.order nodes.now) (N.cells nodes.now) link levels visits.old.at t
         → visits.new.steps ≡ visits.old.steps + length (nodes_of t) }
     // The cursor stands where it stood before, or at a node of the tree.
-    ensures position { (t : Tree)
-        → IsAhead (N.order visits.old.nodes.now) (N.cells visits.old.nodes.now)
-        link levels visits.old.at t
+    ensures position { (t : Tree) → IsAhead (N.order nodes.now) (N.cells nodes.now) link levels visits.old.at t
         → (m : ℕ) → is_in m (nodes_of t) ≡ false → visits.old.at ≢ Some m → visits.new.at ≢ Some m }
-    ensures nodes { visits.new.nodes.now ≡ visits.old.nodes.now }
 {
     let Some(node) = link else {
         return;
     };
-    let left = visits.left(node);
-    let right = visits.right(node);
-    walk_below(visits, left, visit, levels - 1);
+    let left = visits.child(nodes, node, Side::Left);
+    let right = visits.child(nodes, node, Side::Right);
+    walk_below(nodes, visits, left, visit, levels - 1);
     visit(node);
-    walk_below(visits, right, visit, levels - 1);
+    walk_below(nodes, visits, right, visit, levels - 1);
 }
 
 /// Calls `visit` on each node of the tree, in order, and returns the number of steps, which is the number of nodes.
@@ -64,7 +56,7 @@ pub fn walk<N: Nodes, F: FnMut(u64)>(nodes: &N, root: Option<u64>, visit: &mut F
     ensures steps { (t : Tree) → IsSearchTree (N.order nodes.now) (N.cells nodes.now) root t
         → result ≡ length (nodes_of t) }
 {
-    let mut visits = NodeCursor::new(nodes);
-    walk_below(&mut visits, root, visit, MAX_HEIGHT);
-    visits.steps()
+    let mut visits = NodeCursor::new();
+    walk_below(nodes, &mut visits, root, visit, MAX_HEIGHT);
+    visits.steps
 }

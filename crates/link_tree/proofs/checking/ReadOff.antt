@@ -4,6 +4,7 @@ use Rattle.std.proofs.Common.{◌∙◌, arith, inl, inr}
 use Rattle.std.specs.List.{list_all}
 use Rattle.std.specs.Prelude.{◌↔◌}
 use Rattle.std.proofs.lemmas.Bool.{false≢true, and_parts, and_from, cases_Bool, eqb-true}
+use Rattle.std.proofs.lemmas.Option.{none-some, same_Some}
 use Rattle.std.proofs.lemmas.List.Folds.{list_all-append}
 use Rattle.link_tree.specs.Tree.{Cell, Tree, leaf, fork, nodes_of, IsTree, height, joined, tree_from, left_blacks}
 use Rattle.link_tree.specs.Tree.{is_red_black, IsRedBlack, ReadsOff, has_black_root, has_no_red_pair, has_black_height}
@@ -18,17 +19,11 @@ record IsJoined (n : ℕ) (red : Bool) (a b : Option Tree) (t : Tree) : Type 0 w
   is_right : b ≡ Some right
   is : t ≡ fork red left n right
 
-none_tree : (t : Tree) → None ≡ Some t → ⊥
-none_tree t e = cc
-
-same_tree : (s t : Tree) → Some s ≡ Some t → s ≡ t
-same_tree s t e = cc
-
 joined_is : (n : ℕ) (red : Bool) (a b : Option Tree) (t : Tree) → joined n red a b ≡ Some t → IsJoined n red a b t
-joined_is n red None b t e = absurd (none_tree t e)
-joined_is n red (Some l) None t e = absurd (none_tree t e)
+joined_is n red None b t e = absurd (none-some t e)
+joined_is n red (Some l) None t e = absurd (none-some t e)
 joined_is n red (Some l) (Some r) t e =
-    record { left = l; right = r; is_left = refl; is_right = refl; is = sym (same_tree (fork red l n r) t e) }
+    record { left = l; right = r; is_left = refl; is_right = refl; is = sym (same_Some (fork red l n r) t e) }
 
 all_fork : (good : ℕ → Bool) (red : Bool) (l : Tree) (n : ℕ) (r : Tree) → list_all good (nodes_of l) ≡ true
     → good n ≡ true → list_all good (nodes_of r) ≡ true → list_all good (nodes_of (fork red l n r)) ≡ true
@@ -39,11 +34,11 @@ all_fork good red l n r a b c = list_all-append good (nodes_of l) (n ∷ nodes_o
 sound : (depth : ℕ) (good : ℕ → Bool) (h : ℕ → Cell) (link : Option ℕ) (t : Tree)
     → tree_from depth good h link ≡ Some t → IsTree h link t × (list_all good (nodes_of t) ≡ true)
 sound zero good h None t e =
-    let is = same_tree leaf t e in
+    let is = same_Some leaf t e in
     rw (← is) (record { root = refl; holds = tt }, refl)
-sound zero good h (Some n) t e = absurd (none_tree t e)
+sound zero good h (Some n) t e = absurd (none-some t e)
 sound (suc depth) good h None t e =
-    let is = same_tree leaf t e in
+    let is = same_Some leaf t e in
     rw (← is) (record { root = refl; holds = tt }, refl)
 sound (suc depth) good h (Some n) t e =
     elim (cases_Bool (good n)) [
@@ -59,7 +54,7 @@ sound (suc depth) good h (Some n) t e =
           )
       | inr k ↦
           let e' : None ≡ Some t = rw k at e in
-          absurd (none_tree t e')
+          absurd (none-some t e')
     ]
 
 whole : (depth : ℕ) (good : ℕ → Bool) (h : ℕ → Cell) (link : Option ℕ) (t : Tree) → IsTree h link t
@@ -82,7 +77,8 @@ whole (suc depth) good h (Some n) t w a low =
     let k = q.0 in
     rw (k, el, er) (ap Some (sym o.is))
 
-left_blacks_is : (t : Tree) (b : ℕ) → has_black_height t b ≡ true → left_blacks t ≡ b
+-- a tree has one black height, that of its leftmost path
+pub left_blacks_is : (t : Tree) (b : ℕ) → has_black_height t b ≡ true → left_blacks t ≡ b
 left_blacks_is leaf b e = sym (eqb-true b 0 e)
 left_blacks_is (fork true l n r) b e = left_blacks_is l b (and_parts (has_black_height l b) (has_black_height r b) e).0
 left_blacks_is (fork false l n r) zero e = absurd (false≢true e)

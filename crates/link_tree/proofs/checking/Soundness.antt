@@ -1,30 +1,19 @@
 -- A check of the parts is a check of the tree.
-use Rattle.std.proofs.Common.{◌≡◌, ℕ, zero, suc, ◌+◌, ◌≤◌, Bool, true, false, cond, Option, Some, None, List, [], ◌∷◌}
-use Rattle.std.proofs.Common.{◌++◌, length, nat_eq, refl, sym, ap, ◌∙◌, arith, inl, inr, subst}
+use Rattle.std.proofs.Common.{◌≡◌, ℕ, suc, ◌+◌, ◌≤◌, Bool, true, false, cond, Option, Some, None, List, [], ◌∷◌, ◌++◌}
+use Rattle.std.proofs.Common.{length, nat_eq, refl, sym, ap, ◌∙◌, arith, inl, inr, subst}
 use Rattle.std.specs.List.{list_all}
 use Rattle.std.proofs.lemmas.Bool.{false≢true, and_parts, and_from, cases_Bool, or_cases, or_left, or_right, eqb-true}
-use Rattle.link_tree.specs.Tree.{Cell, Tree, leaf, fork, nodes_of, IsSearchTree, is_sorted, height, has_black_root}
-use Rattle.link_tree.specs.Tree.{has_no_red_pair, has_black_height}
+use Rattle.link_tree.specs.Tree.{Cell, Tree, fork, nodes_of, IsSearchTree, is_sorted, height, has_black_root}
+use Rattle.link_tree.specs.Tree.{has_no_red_pair, has_black_height, left_blacks}
 use Rattle.link_tree.specs.Nodes.{is_in, leads}
 use Rattle.link_tree.specs.Between.{is_above, is_below, is_between, count_between}
 use Rattle.link_tree.specs.Checking.{IsLinkClosed, IsSound}
 use Rattle.link_tree.proofs.trees.OrderedLists.{IsStrict, rises_split, rises_join, all_at, all_from, in_left, in_right}
-use Rattle.link_tree.proofs.trees.OrderedLists.{in_middle}
-use Rattle.link_tree.proofs.trees.OrderedLists.{in_parts}
+use Rattle.link_tree.proofs.trees.OrderedLists.{in_middle, in_parts}
 use Rattle.link_tree.proofs.trees.BlackHeights.{even_fork, even_join}
 use Rattle.link_tree.proofs.trees.Linked.{open_tree, close_tree, one_tree}
+use Rattle.link_tree.proofs.checking.ReadOff.{left_blacks_is}
 use Rattle.link_tree.proofs.trees.NodeCount.{tree_good, count_split, above_less, below_less, count_tree}
-
-pub black_height_once : (t : Tree) (a b : ℕ) → has_black_height t a ≡ true → has_black_height t b ≡ true → a ≡ b
-black_height_once leaf a b x y = eqb-true a 0 x ∙ sym (eqb-true b 0 y)
-black_height_once (fork true l n r) a b x y =
-    black_height_once l a b (and_parts (has_black_height l a) (has_black_height r a) x).0
-    (and_parts (has_black_height l b) (has_black_height r b) y).0
-black_height_once (fork false l n r) zero b x y = absurd (false≢true x)
-black_height_once (fork false l n r) (suc a) zero x y = absurd (false≢true y)
-black_height_once (fork false l n r) (suc a) (suc b) x y =
-    ap suc (black_height_once l a b (and_parts (has_black_height l a) (has_black_height r a) x).0
-    (and_parts (has_black_height l b) (has_black_height r b) y).0)
 
 root_black : (red red_above : Bool) (l : Tree) (n : ℕ) (r : Tree) → (red ≡ true → red_above ≡ true → ⊥)
     → red_above ≡ true → has_black_root (fork red l n r) ≡ true
@@ -148,7 +137,7 @@ module _ {lt : ℕ → ℕ → Bool} (strict : IsStrict lt) (h : ℕ → Cell) w
       → IsSound lt h link low high red t a → IsSound lt h link low' high' red' u b → a ≡ b
   one_height link low high low' high' red red' t u a b s k =
       let e = one_tree h link t u s.tree k.tree in
-      black_height_once t a b s.black (subst (λ v. has_black_height v b ≡ true) (sym e) k.black)
+      sym (left_blacks_is t a s.black) ∙ ap left_blacks e ∙ left_blacks_is u b k.black
 
   -- steps: a node of a closed list parts what is between two others
   pub closed_link : (ns : List ℕ) (n : ℕ) (link : Option ℕ) → link ≡ Some n → leads (λ m. is_in m ns) link ≡ true

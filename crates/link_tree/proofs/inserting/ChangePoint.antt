@@ -1,5 +1,5 @@
 -- Where a change of a tree begins: above that node nothing changes.
-use Rattle.std.proofs.Common.{◌≡◌, ℕ, ◌≤◌, arith, Bool, true, false, not, Option, Some, List, ◌++◌, refl, sym, ap, ◌∙◌}
+use Rattle.std.proofs.Common.{◌≡◌, ℕ, ◌≤◌, arith, Bool, true, false, Option, Some, List, ◌++◌, sym, ap, ◌∙◌}
 use Rattle.std.proofs.lemmas.Bool.{true≢false, false_from_ne_true, or_from, or_parts}
 use Rattle.link_tree.specs.Tree.{Cell, Tree, root_of, nodes_of, AreCellsOf, IsTree, IsSearchTree, IsRedBlack, is_sorted}
 use Rattle.link_tree.specs.Tree.{has_black_root, height}
@@ -7,18 +7,11 @@ use Rattle.link_tree.specs.Nodes.{is_in}
 use Rattle.link_tree.specs.Sides.{joined_at}
 use Rattle.link_tree.specs.Turning.{BecomesTree, blackened}
 use Rattle.link_tree.specs.declared.cursor.Side.{Side}
-use Rattle.link_tree.specs.declared.cursor.Side.TheVariants.{Left, Right}
 use Rattle.link_tree.proofs.trees.OrderedLists.{IsStrict, is_in-append}
 use Rattle.link_tree.proofs.trees.Linked.{IsChanged, holds_same}
 use Rattle.link_tree.proofs.trees.OneSided.{Makes, cell_at, joint_of, tree_joint, root_joined, apart_of, in_far}
-use Rattle.link_tree.proofs.trees.OneSided.{in_near}
-use Rattle.link_tree.proofs.trees.OneSided.{in_root, lower_near, nodes_of-painted}
-use Rattle.link_tree.proofs.trees.BlackHeights.{IsEven}
-
-colour_joined : (side : Side) (red : Bool) (near : Tree) (n : ℕ) (far : Tree)
-    → has_black_root (joined_at side red near n far) ≡ not red
-colour_joined Left red near n far = refl
-colour_joined Right red near n far = refl
+use Rattle.link_tree.proofs.trees.OneSided.{in_near, in_root, lower_near, nodes_of-painted}
+use Rattle.link_tree.proofs.trees.BlackHeights.{IsEven, colour_joined}
 
 -- a node outside more nodes
 outside_less : (m : ℕ) (ns ms : List ℕ) → ((k : ℕ) → is_in k ns ≡ true → is_in k ms ≡ true) → is_in m ms ≡ false
@@ -94,13 +87,13 @@ module _ {lt : ℕ → ℕ → Bool} (strict : IsStrict lt) (h : ℕ → Cell) (
       }
 
   -- the whole tree after a change at a node
-  pub begun : (lt' : ℕ → ℕ → Bool) (h1 h' : ℕ → Cell) (root link to : Option ℕ) (t : Tree) (b : ℕ) (ns : List ℕ)
+  pub begun : (h1 : ℕ → Cell) (root link to : Option ℕ) (t : Tree) (b : ℕ) (ns : List ℕ)
       → IsSearchTree lt h root t → (g : Begins lt h xs change link t)
       → BecomesTree h h1 (xs ++ nodes_of g.below) to (change g.below) → IsEven (change t) b → nodes_of (change t) ≡ ns
-      → is_sorted lt ns ≡ true → h' ≡ h1 → lt' ≡ lt → IsChanged lt' h h' root (xs ++ nodes_of t) ns
-  begun lt' h1 h' root link to t b ns s g u even nodes o eh el =
+      → is_sorted lt ns ≡ true → IsChanged lt h h1 root (xs ++ nodes_of t) ns
+  begun h1 root link to t b ns s g u even nodes o =
       let new = g.carries h1 to u in
-      rw (eh, el) (record {
+      record {
         tree = (
           change t,
           record {
@@ -118,16 +111,16 @@ module _ {lt : ℕ → ℕ → Bool} (strict : IsStrict lt) (h : ℕ → Cell) (
             let p = or_parts (is_in m xs) (is_in m (nodes_of t)) (sym (is_in-append m xs (nodes_of t)) ∙ i) in
             u.frame m (outside_both m xs (nodes_of g.below) p.0
             (outside_less m (nodes_of g.below) (nodes_of t) g.inside p.1));
-      })
+      }
 
 -- a change of a whole tree, whose root is made black
-pub blackened_whole : {lt : ℕ → ℕ → Bool} (lt' : ℕ → ℕ → Bool) (h h1 h2 h' : ℕ → Cell) (link : Option ℕ) (t : Tree)
+pub blackened_whole : {lt : ℕ → ℕ → Bool} (h h1 h2 : ℕ → Cell) (link : Option ℕ) (t : Tree)
     (xs ns : List ℕ) → BecomesTree h h1 xs link t → Makes lt h1 h2 link link blackened
     → IsRedBlack (blackened t) → nodes_of t ≡ ns → is_sorted lt ns ≡ true
-    → ((m : ℕ) → is_in m xs ≡ false → is_in m ns ≡ false) → h' ≡ h2 → lt' ≡ lt → IsChanged lt' h h' link xs ns
-blackened_whole {lt = lt} lt' h h1 h2 h' link t xs ns u black red_black nodes o out eh el =
+    → ((m : ℕ) → is_in m xs ≡ false → is_in m ns ≡ false) → IsChanged lt h h2 link xs ns
+blackened_whole {lt = lt} h h1 h2 link t xs ns u black red_black nodes o out =
     let b = black t u.tree (ap (is_sorted lt) nodes ∙ o) in
-    rw (eh, el) (record {
+    record {
       tree = (
         blackened t,
         record {
@@ -138,4 +131,4 @@ blackened_whole {lt = lt} lt' h h1 h2 h' link t xs ns u black red_black nodes o 
         nodes_of-painted false t ∙ nodes,
       );
       frame = λ m i. b.frame m (ap (is_in m) nodes ∙ out m i) ∙ u.frame m i;
-    })
+    }

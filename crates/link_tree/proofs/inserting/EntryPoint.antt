@@ -18,8 +18,7 @@ use Rattle.link_tree.proofs.inserting.ChangePoint.{Begins, begins_deeper, begins
 use Rattle.link_tree.proofs.trees.OneSided.{joint_of, apart_of, in_near, child_of_cell}
 use Rattle.link_tree.proofs.trees.BlackHeights.{even_tree, IsEven, IsEvenFork, even_fork, under_red, rebalanced_red}
 use Rattle.link_tree.proofs.inserting.Insertion.{grown_even, after_insert-joined, nodes_of-after_insert, rises_put}
-use Rattle.link_tree.proofs.inserting.Insertion.{placed_apart, Rebalances}
-use Rattle.link_tree.proofs.inserting.Insertion.{place_part, out_of}
+use Rattle.link_tree.proofs.inserting.Insertion.{placed_apart, Rebalances, place_part, out_of}
 
 -- ---- balancing where there is no red pair
 
@@ -199,15 +198,14 @@ module _ {lt : ℕ → ℕ → Bool} (strict : IsStrict lt) (h : ℕ → Cell) (
       rw (balance_same side red (after_insert lt x u) at far (even u w)) (record { tree = j; frame = λ m i. refl })
 
   -- an insertion below its begin is an insertion into the whole tree
-  pub entered : (lt' : ℕ → ℕ → Bool) (h1 h' : ℕ → Cell) (root : Option ℕ) (top : ℕ) (t : Tree) (p : ℕ)
+  pub entered : (h1 : ℕ → Cell) (root : Option ℕ) (top : ℕ) (t : Tree) (p : ℕ)
       → IsSearchTree lt h root t → is_ordered_with lt x (nodes_of t) ≡ true → (g : IsBegun lt h x t p)
-      → BecomesTree h h1 (x ∷ nodes_of g.begins.below) (Some top) (after_insert lt x g.begins.below) → h' ≡ h1
-      → lt' ≡ lt → IsChanged lt' h h' root (x ∷ nodes_of t) (insert_in_order lt x (nodes_of t))
-  entered lt' h1 h' root top t p s q g u eh el =
+      → BecomesTree h h1 (x ∷ nodes_of g.begins.below) (Some top) (after_insert lt x g.begins.below)
+      → IsChanged lt h h1 root (x ∷ nodes_of t) (insert_in_order lt x (nodes_of t))
+  entered h1 root top t p s q g u =
       let b = s.red_black.black.0 in
       let e = grown_even lt x t b (even_tree t s.red_black) in
-      begun strict h (x ∷ []) (after_insert lt x) lt' h1 h' root (Some p) (Some top) t b
-      (insert_in_order lt x (nodes_of t)) s
+      begun strict h (x ∷ []) (after_insert lt x) h1 root (Some p) (Some top) t b (insert_in_order lt x (nodes_of t)) s
       g.begins u
       (record { no_red_pair = g.even; black = e.nearly.black }) (nodes_of-after_insert strict x t s.ordered)
-      (rises_put lt strict.transitive x (nodes_of t) s.ordered q) eh el
+      (rises_put lt strict.transitive x (nodes_of t) s.ordered q)

@@ -1,10 +1,9 @@
 -- The insertion keeps order, colours and black heights.
 use Rattle.std.proofs.Common.{◌≡◌, ℕ, zero, suc, ◌+◌, ◌≤◌, Bool, true, false, not, ◌&&◌, ◌||◌, Option, Some, None, List}
-use Rattle.std.proofs.Common.{[], ◌∷◌, ◌++◌, nat_eq, refl, sym, ap, ◌∙◌, inl, inr, ◌⊎◌}
+use Rattle.std.proofs.Common.{[], ◌∷◌, ◌++◌, nat_eq, refl, sym, ap, ◌∙◌, inl, inr}
 use Rattle.std.specs.List.{list_all}
 use Rattle.std.proofs.lemmas.Bool.{true≢false, false≢true, and_parts, and_from, or_cases, or_from, or_parts, eqb-false}
-use Rattle.std.proofs.lemmas.Bool.{or_left, or_right, cases_Bool, eqb-true, ne_eqb, not-true, not_from_false}
-use Rattle.std.proofs.lemmas.Bool.{false_from_ne_true}
+use Rattle.std.proofs.lemmas.Bool.{cases_Bool, eqb-true, ne_eqb, not-true, not_from_false, false_from_ne_true}
 use Rattle.link_tree.specs.Tree.{Cell, Tree, leaf, fork, root_of, nodes_of, IsTree, IsSearchTree, is_sorted}
 use Rattle.link_tree.specs.Tree.{has_black_root, has_no_red_pair, has_black_height, IsRedBlack, height}
 use Rattle.link_tree.specs.Nodes.{is_in, is_ordered_with, insert_in_order, with_left, with_right, with_red}
@@ -22,9 +21,8 @@ use Rattle.link_tree.proofs.trees.OneSided.{with_child-other, with_child-near, i
 use Rattle.link_tree.proofs.trees.OneSided.{nodes_of-joined, nodes_of-painted, nodes_of-turn}
 use Rattle.link_tree.proofs.inserting.Rotations.{graft}
 use Rattle.link_tree.proofs.trees.BlackHeights.{blackened_red_black, even_tree, IsEven, IsNearlyEven, red_nearly}
-use Rattle.link_tree.proofs.trees.BlackHeights.{rebalanced_even}
-use Rattle.link_tree.proofs.trees.BlackHeights.{rebalanced_red, red_of_join, nearly_even, under_red, sides_of_red}
-use Rattle.link_tree.proofs.trees.BlackHeights.{sides_of_black}
+use Rattle.link_tree.proofs.trees.BlackHeights.{rebalanced_even, rebalanced_red, colour_joined, nearly_even, under_red}
+use Rattle.link_tree.proofs.trees.BlackHeights.{sides_of_red, sides_of_black}
 
 -- ---- lists
 
@@ -45,33 +43,23 @@ put_in_right lt x (y ∷ xs) n ys e a =
     let f = not-true (lt x y) p.0 in
     rw f (ap (λ zs. y ∷ zs) (put_in_right lt x xs n ys e p.1))
 
-pub put_parts : (lt : ℕ → ℕ → Bool) (x : ℕ) (xs : List ℕ) (m : ℕ) → is_in m (insert_in_order lt x xs) ≡ true
-    → (m ≡ x) ⊎ (is_in m xs ≡ true)
-put_parts lt x [] m i = elim (or_cases (nat_eq m x) false i) [
-  | inl e ↦ inl (eqb-true m x e)
-  | inr e ↦ absurd (false≢true e)
-]
-put_parts lt x (y ∷ xs) m i =
+or_swap : (a b c : Bool) → (a || (b || c)) ≡ (b || (a || c))
+or_swap true true c = refl
+or_swap true false c = refl
+or_swap false b c = refl
+
+is_in-put : (lt : ℕ → ℕ → Bool) (x : ℕ) (xs : List ℕ) (m : ℕ)
+    → is_in m (insert_in_order lt x xs) ≡ (nat_eq m x || is_in m xs)
+is_in-put lt x [] m = refl
+is_in-put lt x (y ∷ xs) m =
     elim (cases_Bool (lt x y)) [
-      | inl a ↦
-          let j : is_in m (x ∷ y ∷ xs) ≡ true = rw a at i in
-          elim (or_cases (nat_eq m x) (is_in m (y ∷ xs)) j) [ inl e ↦ inl (eqb-true m x e) | inr e ↦ inr e ]
-      | inr a ↦
-          let j : is_in m (y ∷ insert_in_order lt x xs) ≡ true = rw a at i in
-          elim (or_cases (nat_eq m y) (is_in m (insert_in_order lt x xs)) j) [
-            | inl e ↦ inr (or_left (nat_eq m y) (is_in m xs) e)
-            | inr e ↦ elim (put_parts lt x xs m e) [
-              | inl f ↦ inl f
-              | inr f ↦ inr (or_right (nat_eq m y) (is_in m xs) f)
-            ]
-          ]
+      | inl a ↦ rw a refl
+      | inr a ↦ rw a (ap (λ b. nat_eq m y || b) (is_in-put lt x xs m) ∙ or_swap (nat_eq m y) (nat_eq m x) (is_in m xs))
     ]
 
 pub put_out : (lt : ℕ → ℕ → Bool) (x : ℕ) (xs : List ℕ) (m : ℕ) → (m ≡ x → ⊥) → is_in m xs ≡ false
     → is_in m (insert_in_order lt x xs) ≡ false
-put_out lt x xs m d o =
-    false_from_ne_true (is_in m (insert_in_order lt x xs))
-    (λ i. elim (put_parts lt x xs m i) [ inl e ↦ d e | inr e ↦ true≢false (sym e ∙ o) ])
+put_out lt x xs m d o = is_in-put lt x xs m ∙ or_from (nat_eq m x) (is_in m xs) (ne_eqb m x d) o
 
 -- a node has its place in each part of a list in which it has one
 pub place_part : (lt : ℕ → ℕ → Bool) (x : ℕ) (xs ys : List ℕ) → ((m : ℕ) → is_in m xs ≡ true → is_in m ys ≡ true)
@@ -154,7 +142,10 @@ module _ (lt : ℕ → ℕ → Bool) (transitive : (a b c : ℕ) → lt a b ≡ 
             elim (or_cases (lt x y) (lt y x) k.0) [ inl c ↦ absurd (true≢false (sym c ∙ a)) | inr c ↦ c ] in
             rw a (and_from (list_all (lt y) (insert_in_order lt x ys)) (is_sorted lt (insert_in_order lt x ys))
             (all_from (lt y) (insert_in_order lt x ys)
-            (λ m i. elim (put_parts lt x ys m i) [ inl e ↦ rw e b | inr j ↦ all_at (lt y) ys m q.0 j ]))
+            (λ m i. elim (or_cases (nat_eq m x) (is_in m ys) (sym (is_in-put lt x ys m) ∙ i)) [
+              | inl e ↦ rw (eqb-true m x e) b
+              | inr j ↦ all_at (lt y) ys m q.0 j
+            ]))
             (rises_put x ys q.1 k.1))
       ]
 
@@ -203,7 +194,7 @@ grown_red side near near' n far b e f k =
     let even : IsEven near' b = record { no_red_pair = e.even k; black = e.nearly.black } in
     rw rebalanced_red (record {
       nearly = red_nearly side near' n far b even f;
-      even = λ q. absurd (true≢false (sym q ∙ red_of_join side near n far));
+      even = λ q. absurd (true≢false (sym q ∙ colour_joined side true near n far));
     })
 
 grown_black : (side : Side) (near near' : Tree) (n : ℕ) (far : Tree) (b : ℕ) → IsGrownEven near near' b → IsEven far b
@@ -367,23 +358,22 @@ leaf_even lt h x link e leaf w = refl
 leaf_even lt h x link e (fork red l n r) w = absurd (none_some n (sym e ∙ w.tree.root))
 
 -- a black node alone is the tree after an insertion into an empty one
-pub laid : {lt : ℕ → ℕ → Bool} (lt' : ℕ → ℕ → Bool) (h h1 h' : ℕ → Cell) (root : Option ℕ) (x : ℕ) (t : Tree)
-    → root ≡ None → IsSearchTree lt h root t → BecomesTree h h1 (x ∷ []) (Some x) (fork false leaf x leaf) → h' ≡ h1
-    → IsChanged lt' h h' (Some x) (x ∷ nodes_of t) (insert_in_order lt x (nodes_of t))
-laid lt' h h1 h' root x leaf e k b eh =
-    rw eh (record {
-      tree = (
-        fork false leaf x leaf,
-        record {
-          tree = b.tree;
-          ordered = refl;
-          red_black = record { root = refl; no_red_pair = refl; black = (1, refl) };
-        },
-        refl,
-      );
-      frame = b.frame;
-    })
-laid lt' h h1 h' root x (fork red l n r) e k b eh = absurd (none_some n (sym e ∙ k.tree.root))
+pub laid : {lt : ℕ → ℕ → Bool} (lt' : ℕ → ℕ → Bool) (h h1 : ℕ → Cell) (root : Option ℕ) (x : ℕ) (t : Tree)
+    → root ≡ None → IsSearchTree lt h root t → BecomesTree h h1 (x ∷ []) (Some x) (fork false leaf x leaf)
+    → IsChanged lt' h h1 (Some x) (x ∷ nodes_of t) (insert_in_order lt x (nodes_of t))
+laid lt' h h1 root x leaf e k b = record {
+  tree = (
+    fork false leaf x leaf,
+    record {
+      tree = b.tree;
+      ordered = refl;
+      red_black = record { root = refl; no_red_pair = refl; black = (1, refl) };
+    },
+    refl,
+  );
+  frame = b.frame;
+}
+laid lt' h h1 root x (fork red l n r) e k b = absurd (none_some n (sym e ∙ k.tree.root))
 
 -- the tree below a node, where another node is to go
 pub record GrowsBelow (lt : ℕ → ℕ → Bool) (h : ℕ → Cell) (side : Side) (at x : ℕ) (t : Tree) : Type 0 where
@@ -416,14 +406,13 @@ pub frame_beside : {lt : ℕ → ℕ → Bool} {h h' : ℕ → Cell} {root : Opt
 frame_beside {x = x} {ns = ns} c m d o = c.frame m (or_from (nat_eq m x) (is_in m ns) (ne_eqb m x d) o)
 
 -- the whole insertion, its root made black
-pub inserted : {lt : ℕ → ℕ → Bool} → IsStrict lt → (lt' : ℕ → ℕ → Bool) (h h1 h2 h' : ℕ → Cell) (root : Option ℕ)
-    (x top : ℕ) (t : Tree) → IsSearchTree lt h root t → is_ordered_with lt x (nodes_of t) ≡ true
+pub inserted : {lt : ℕ → ℕ → Bool} → IsStrict lt → (h h1 h2 : ℕ → Cell) (root : Option ℕ) (x top : ℕ) (t : Tree)
+    → IsSearchTree lt h root t → is_ordered_with lt x (nodes_of t) ≡ true
     → BecomesTree h h1 (x ∷ nodes_of t) (Some top) (after_insert lt x t)
     → Makes lt h1 h2 (Some top) (Some top) blackened
-    → h' ≡ h2 → lt' ≡ lt → IsChanged lt' h h' (Some top) (x ∷ nodes_of t) (insert_in_order lt x (nodes_of t))
-inserted {lt = lt} strict lt' h h1 h2 h' root x top t k p g black eh el =
-    blackened_whole lt' h h1 h2 h' (Some top) (after_insert lt x t) (x ∷ nodes_of t)
-    (insert_in_order lt x (nodes_of t)) g black
-    (grown_red_black lt x t k.red_black) (nodes_of-after_insert strict x t k.ordered)
+    → IsChanged lt h h2 (Some top) (x ∷ nodes_of t) (insert_in_order lt x (nodes_of t))
+inserted {lt = lt} strict h h1 h2 root x top t k p g black =
+    blackened_whole h h1 h2 (Some top) (after_insert lt x t) (x ∷ nodes_of t) (insert_in_order lt x (nodes_of t)) g
+    black (grown_red_black lt x t k.red_black) (nodes_of-after_insert strict x t k.ordered)
     (rises_put lt strict.transitive x (nodes_of t) k.ordered p)
-    (λ m i. let out = outside_x m x (nodes_of t) i in put_out lt x (nodes_of t) m out.0 out.1) eh el
+    (λ m i. let out = outside_x m x (nodes_of t) i in put_out lt x (nodes_of t) m out.0 out.1)

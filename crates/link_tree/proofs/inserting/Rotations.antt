@@ -6,19 +6,16 @@ use Rattle.link_tree.specs.Tree.{is_sorted}
 use Rattle.link_tree.specs.Nodes.{is_in, with_red}
 use Rattle.link_tree.specs.Sides.{opposite, child_of, with_child, tree_on, joined_at}
 use Rattle.link_tree.specs.Turning.{balanced_inner, balanced_outer, balanced_red, BecomesTree, blackened, flipped}
-use Rattle.link_tree.specs.Turning.{painted, rotated}
-use Rattle.link_tree.specs.Turning.{rebalanced}
-use Rattle.link_tree.specs.Turning.{is_red_tree}
+use Rattle.link_tree.specs.Turning.{painted, rotated, rebalanced, is_red_tree}
 use Rattle.link_tree.specs.declared.cursor.Side.{Side}
 use Rattle.link_tree.specs.declared.cursor.Side.TheVariants.{Left, Right}
 use Rattle.link_tree.proofs.trees.OrderedLists.{IsStrict}
 use Rattle.link_tree.proofs.trees.Linked.{holds_same, some_same, none_some}
 use Rattle.link_tree.proofs.trees.OneSided.{Makes, cell_at, with_child-other, with_child-near, with_child-far}
-use Rattle.link_tree.proofs.trees.OneSided.{with_red-other}
-use Rattle.link_tree.proofs.trees.OneSided.{with_red-same, fork_joined, root_joined, joint_of, tree_joint, open_side}
-use Rattle.link_tree.proofs.trees.OneSided.{apart_of}
-use Rattle.link_tree.proofs.trees.OneSided.{in_near, in_far, in_root, outside_all, other_than, nodes_of-joined}
-use Rattle.link_tree.proofs.trees.OneSided.{nodes_of-joined_far, nodes_of-painted, nodes_of-turn, rotated-joined}
+use Rattle.link_tree.proofs.trees.OneSided.{joined_opposite, with_red-other, with_red-same, fork_joined, root_joined}
+use Rattle.link_tree.proofs.trees.OneSided.{joint_of, tree_joint, open_side, apart_of, in_near, in_far, in_root}
+use Rattle.link_tree.proofs.trees.OneSided.{outside_all, other_than, nodes_of-joined, nodes_of-joined_far}
+use Rattle.link_tree.proofs.trees.OneSided.{nodes_of-painted, nodes_of-turn, rotated-joined}
 
 -- the tree on one side is another now, and the root's link leads to it
 pub graft : (side : Side) (h h1 h2 : ℕ → Cell) (red : Bool) (near near' : Tree) (n : ℕ) (far : Tree) (link : Option ℕ)
@@ -235,20 +232,10 @@ rotated-opposite : (side : Side) (a : Tree) (m : ℕ) (p : Tree) (k : ℕ) (q : 
 rotated-opposite Left a m p k q = refl
 rotated-opposite Right a m p k q = refl
 
-blackened-joined : (side : Side) (red : Bool) (near : Tree) (n : ℕ) (far : Tree)
-    → blackened (joined_at side red near n far) ≡ joined_at side false near n far
-blackened-joined Left red near n far = refl
-blackened-joined Right red near n far = refl
-
 painted-joined : (side : Side) (old red : Bool) (near : Tree) (n : ℕ) (far : Tree)
     → painted red (joined_at side old near n far) ≡ joined_at side red near n far
 painted-joined Left old red near n far = refl
 painted-joined Right old red near n far = refl
-
-joined_opposite : (side : Side) (red : Bool) (near : Tree) (n : ℕ) (far : Tree)
-    → joined_at (opposite side) red far n near ≡ joined_at side red near n far
-joined_opposite Left red near n far = refl
-joined_opposite Right red near n far = refl
 
 -- links of joined trees lead to their roots
 same_root : (side : Side) (h : ℕ → Cell) (m n : ℕ) (red : Bool) (near far : Tree)
@@ -341,7 +328,7 @@ module _ {lt : ℕ → ℕ → Bool} (strict : IsStrict lt) where
       let joint1 = joint_of h1 side true up k q l1.tree.holds in
       let up_tree : IsTree h1 (Some near) up =
       record { root = sym (root_joined side true a near p); holds = joint1.near_holds } in
-      let black = rw (blackened-joined side true a near p) at
+      let black = rw (painted-joined side true false a near p) at
       (paint_turns strict h1 h2 near false up up_tree apart1.near_rises blacken) in
       let nodes_up : nodes_of up' ≡ nodes_of up = nodes_of-joined side true false a a near p refl in
       let k_cell : h2 k ≡ cell_at side true (Some near) (root_of q) =
@@ -433,9 +420,10 @@ module _ {lt : ℕ → ℕ → Bool} (strict : IsStrict lt) where
       let whole = joined_at side red p.near top p.far in
       let tree : IsTree h (Some top) whole = rw p.is at w in
       let order : is_sorted lt (nodes_of whole) ≡ true = rw p.is at o in
-      let turned : joined_at (opposite side) red p.far top p.near ≡ whole = joined_opposite side red p.near top p.far in
+      let turned : joined_at (opposite side) red p.far top p.near ≡ whole =
+      sym (joined_opposite side red p.near top p.far) in
       let first : BecomesTree h h1 (nodes_of whole) (Some top) (joined_at side red p.near top (blackened p.far)) =
-      rw (turned, joined_opposite side red p.near top (blackened p.far)) at
+      rw (turned, sym (joined_opposite side red p.near top (blackened p.far))) at
       (child_black (opposite side) h h1 top far red p.far p.near (rw turned tree) (rw turned order)
       (sym p.far_tree.root ∙ e2) blacken_far) in
       let nodes1 : nodes_of (joined_at side red p.near top (blackened p.far)) ≡ nodes_of whole =

@@ -1,11 +1,9 @@
 -- The listing of a tree, from the listings of its two subtrees.
-use Rattle.std.proofs.Common.{◌≡◌, ◌≢◌, ℕ, suc, ◌+◌, ◌-◌, ◌<◌, ◌≤◌, Bool, true, false, not, Option, Some}
-use Rattle.std.proofs.Common.{List, ◌∷◌, ◌++◌, length, set, min, refl, sym, ap, ◌∙◌, arith, inl, inr, length-append}
-use Rattle.std.proofs.Common.{length-set}
+use Rattle.std.proofs.Common.{◌≡◌, ◌≢◌, ℕ, suc, ◌+◌, ◌-◌, ◌<◌, ◌≤◌, Bool, true, false, not, Option, Some, List, ◌∷◌}
+use Rattle.std.proofs.Common.{◌++◌, length, set, min, refl, sym, ap, ◌∙◌, arith, inl, inr, length-append, length-set}
 use Rattle.std.specs.List.{list_all}
 use Rattle.std.proofs.lemmas.Bool.{true≢false, cases_Bool, false_from_ne_true, not_from_false}
 use Rattle.link_tree.specs.Tree.{Cell, Tree, leaf, fork, nodes_of, IsTree, height}
-use Rattle.link_tree.specs.Nodes.{leads}
 use Rattle.link_tree.specs.Listing.{IsLowSearchTree, Lists, nodes_from, placed, skipped}
 use Rattle.link_tree.proofs.trees.Linked.{open_tree}
 use Rattle.link_tree.proofs.trees.OrderedLists.{all_at, all_from, rises_split}
@@ -14,52 +12,40 @@ use Rattle.link_tree.proofs.listing.Rows.{placed_length}
 
 -- ---- a tree at a node
 
--- the left and the right subtree of a node, whose links are read in the state `now`; they are ordered and have one
--- level less. If the node precedes a probe, so do all of the left one, and if it does not, none of the right one does
-pub record AreParts {S : Type 0} (good : S → ℕ → Bool) (order : S → ℕ → ℕ → Bool) (cells : S → ℕ → Cell)
-    (before : ℕ → Bool) (s now : S) (n levels : ℕ) (left_link right_link : Option ℕ) (t : Tree) : Type 0 where
+-- the left and the right subtree of a node; they are ordered and have one level less. If the node precedes a probe, so
+-- do all of the left one, and if it does not, none of the right one does
+pub record AreParts (lt : ℕ → ℕ → Bool) (h : ℕ → Cell) (before : ℕ → Bool) (n levels : ℕ)
+    (left_link right_link : Option ℕ) (t : Tree) : Type 0 where
   pub left : Tree
   pub right : Tree
-  pub is : t ≡ fork (cells s n).red left n right
+  pub is : t ≡ fork (h n).red left n right
   pub positive : 0 < levels
-  pub left_leads : leads (good now) left_link ≡ true
-  pub right_leads : leads (good now) right_link ≡ true
-  pub left_below : IsLowSearchTree (order now) (cells now) left_link (levels - 1) left
-  pub right_below : IsLowSearchTree (order now) (cells now) right_link (levels - 1) right
+  pub left_below : IsLowSearchTree lt h left_link (levels - 1) left
+  pub right_below : IsLowSearchTree lt h right_link (levels - 1) right
   pub size : length (nodes_of t) ≡ length (nodes_of left) + length (nodes_of right) + 1
   pub left_before : before n ≡ true → list_all before (nodes_of left) ≡ true
   pub right_from : before n ≡ false → list_all (λ m. not (before m)) (nodes_of right) ≡ true
 
 -- an ordered tree behind a link to a node has two ordered trees
-pub parts_sorted : {S : Type 0} (good : S → ℕ → Bool) (order : S → ℕ → ℕ → Bool) (cells : S → ℕ → Cell)
-    (before : ℕ → Bool) (s now : S) (n levels : ℕ) (link left_link right_link : Option ℕ) (t : Tree)
-    → ((a b : ℕ) → order s a b ≡ true → before b ≡ true → before a ≡ true)
-    → leads (good s) (cells s n).left ≡ true → leads (good s) (cells s n).right ≡ true
-    → link ≡ Some n → now ≡ s → left_link ≡ (cells s n).left → right_link ≡ (cells s n).right
-    → IsLowSearchTree (order s) (cells s) link levels t
-    → AreParts good order cells before s now n levels left_link right_link t
-parts_sorted good order cells before s now n levels link left_link right_link t agrees left_good right_good e same left
-    right b =
-    let lt = order s in
-    let w : IsTree (cells s) (Some n) t = rw e at b.tree in
-    let o = open_tree (cells s) n t w in
+pub parts_sorted : {lt : ℕ → ℕ → Bool} {h : ℕ → Cell} (before : ℕ → Bool) (n levels : ℕ)
+    (link left_link right_link : Option ℕ) (t : Tree)
+    → ((a b : ℕ) → lt a b ≡ true → before b ≡ true → before a ≡ true)
+    → link ≡ Some n → left_link ≡ (h n).left → right_link ≡ (h n).right → IsLowSearchTree lt h link levels t
+    → AreParts lt h before n levels left_link right_link t
+parts_sorted {lt = lt} {h = h} before n levels link left_link right_link t agrees e left right b =
+    let w : IsTree h (Some n) t = rw e at b.tree in
+    let o = open_tree h n t w in
     let low = rw o.is at b.low in
     let l = nodes_of o.left in
     let r = nodes_of o.right in
     let sp = rises_split lt l n r (rw o.is at b.ordered) in
-    let left_low : IsLowSearchTree lt (cells s) (cells s n).left (levels - 1) o.left =
-    record { tree = o.left_tree; ordered = sp.left; low = omega arith } in
-    let right_low : IsLowSearchTree lt (cells s) (cells s n).right (levels - 1) o.right =
-    record { tree = o.right_tree; ordered = sp.right; low = omega arith } in
     record {
       left = o.left;
       right = o.right;
       is = o.is;
       positive = omega arith;
-      left_leads = rw (same, left) left_good;
-      right_leads = rw (same, right) right_good;
-      left_below = rw (same, left) left_low;
-      right_below = rw (same, right) right_low;
+      left_below = record { tree = rw left o.left_tree; ordered = sp.left; low = omega arith };
+      right_below = record { tree = rw right o.right_tree; ordered = sp.right; low = omega arith };
       size = ap (λ u. length (nodes_of u)) o.is ∙ omega (arith, length-append l (n ∷ r));
       left_before = λ k. all_from before l (λ m i. agrees m n (all_at (λ x. lt x n) l m sp.below i) k);
       right_from = λ k. all_from (λ m. not (before m)) r (λ m i. not_from_false (before m)
@@ -82,12 +68,6 @@ skipped_height before (fork red l n r) =
 
 -- ---- the nodes from a probe on
 
--- a probe of an equal state
-pub lists_same : {S : Type 0} (before : S → ℕ → Bool) {s s' : S} {t : Tree} {list list' : List ℕ}
-    {count count' steps steps' : ℕ} → s' ≡ s → Lists (before s') t list count list' count' steps steps'
-    → Lists (before s) t list count list' count' steps steps'
-lists_same before e a = rw (← e) a
-
 -- no place
 pub lists_full : (before : ℕ → Bool) (t : Tree) (list : List ℕ) (count steps : ℕ) → count ≡ length list
     → Lists before t list count list count steps steps
@@ -100,18 +80,18 @@ lists_full before t list count steps full = record {
 }
 
 -- a list that is not full has a place for one more
-pub next_place : (before : ℕ → Bool) (left : Tree) (list row1 : List ℕ) (count count1 n steps steps1 : ℕ)
+pub next_place : {before : ℕ → Bool} {left : Tree} {list row1 : List ℕ} {count count1 : ℕ} (n : ℕ) {steps steps1 : ℕ}
     → Lists before left list count row1 count1 steps steps1 → count1 ≢ length row1
     → count1 + 1 ≤ length (set row1 count1 n)
-next_place before left list row1 count count1 n steps steps1 a more =
+next_place {before = before} {left = left} {list = list} {row1 = row1} {count = count} {count1 = count1} n a more =
     let same : length row1 ≡ length list =
     ap length a.listed ∙ placed_length list count (nodes_from before (nodes_of left)) in
     let same2 : length (set row1 count1 n) ≡ length list = length-set row1 count1 n ∙ same in
     let many = a.many in
     omega arith
 
-module _ (before : ℕ → Bool) (red : Bool) (left : Tree) (n : ℕ) (right : Tree) (list row1 : List ℕ)
-    (count count1 steps steps1 steps2 : ℕ) where
+module _ (before : ℕ → Bool) (red : Bool) (left : Tree) (n : ℕ) (right : Tree) {list row1 : List ℕ}
+    {count count1 : ℕ} (steps : ℕ) {steps1 steps2 : ℕ} where
   -- the node and those to the left of it precede the probe
   pub lists_right : list_all before (nodes_of left) ≡ true → before n ≡ true → steps1 ≤ steps + 1
       → Lists before right list count row1 count1 steps1 steps2
@@ -134,9 +114,9 @@ module _ (before : ℕ → Bool) (red : Bool) (left : Tree) (n : ℕ) (right : T
             omega arith;
       }
 
-  module _ (this : before n ≡ false) (all : list_all (λ m. not (before m)) (nodes_of right) ≡ true)
-      (within : count ≤ length list) (step : steps1 ≤ steps + 1)
-      (a : Lists before left list count row1 count1 steps1 steps2) where
+  module _ (a : Lists before left list count row1 count1 steps1 steps2) (this : before n ≡ false)
+      (all : list_all (λ m. not (before m)) (nodes_of right) ≡ true) (within : count ≤ length list)
+      (step : steps1 ≤ steps + 1) where
     -- the nodes to the left fill the list
     pub lists_stops : count1 ≡ length row1 → Lists before (fork red left n right) list count row1 count1 steps steps2
     lists_stops full =
@@ -165,10 +145,10 @@ module _ (before : ℕ → Bool) (red : Bool) (left : Tree) (n : ℕ) (right : T
         }
 
     -- the nodes to the left, the node and the right tree
-    pub lists_on : (row2 : List ℕ) (count2 steps3 : ℕ) → count1 ≢ length row1
+    pub lists_on : {row2 : List ℕ} {count2 steps3 : ℕ} → count1 ≢ length row1
         → Lists (λ _. false) right (set row1 count1 n) (count1 + 1) row2 count2 steps2 steps3
         → Lists before (fork red left n right) list count row2 count2 steps steps3
-    lists_on row2 count2 steps3 more b =
+    lists_on {row2 = row2} {count2 = count2} {steps3 = steps3} more b =
         let l = nodes_of left in
         let f = nodes_from before l in
         let r = nodes_of right in

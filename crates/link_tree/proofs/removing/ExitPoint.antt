@@ -116,7 +116,8 @@ module _ {lt : ℕ → ℕ → Bool} (strict : IsStrict lt) (h : ℕ → Cell) (
             (turned_here side red near n far w o d s k)
       ]
 
-  turned : (t : Tree) (q : ℕ) → AreCellsOf h t → is_sorted lt (nodes_of t) ≡ true → remove_point_of lt x t ≡ Some q
+  -- a removal from an ordered tree begins at a node or at the root
+  pub turned : (t : Tree) (q : ℕ) → AreCellsOf h t → is_sorted lt (nodes_of t) ≡ true → remove_point_of lt x t ≡ Some q
       → IsTurned lt h x t q
   turned leaf q w o k = absurd (none_some q k)
   turned (fork red l n r) q w o k =
@@ -132,18 +133,13 @@ module _ {lt : ℕ → ℕ → Bool} (strict : IsStrict lt) (h : ℕ → Cell) (
         ]
       ]
 
-  -- a removal from a search tree begins at a node or at the root
-  pub turned_whole : (root : Option ℕ) (t : Tree) (p : ℕ) → IsSearchTree lt h root t → remove_point_of lt x t ≡ Some p
-      → IsTurned lt h x t p
-  turned_whole root t p s e = turned t p s.tree.holds s.ordered e
-
   -- a removal below its begin is a removal from the whole tree
-  pub left : (lt' : ℕ → ℕ → Bool) (h1 h' : ℕ → Cell) (root link : Option ℕ) (fell : Bool) (t : Tree) (p : ℕ)
+  pub left : (h1 : ℕ → Cell) (root link : Option ℕ) (fell : Bool) (t : Tree) (p : ℕ)
       → IsSearchTree lt h root t → (g : IsTurned lt h x t p)
-      → RemovesTo h h1 (nodes_of g.begins.below) link fell (after_remove lt x g.begins.below) → h' ≡ h1 → lt' ≡ lt
-      → IsChanged lt' h h' root (nodes_of t) (without x (nodes_of t))
-  left lt' h1 h' root link fell t p s g u eh el =
+      → RemovesTo h h1 (nodes_of g.begins.below) link fell (after_remove lt x g.begins.below)
+      → IsChanged lt h h1 root (nodes_of t) (without x (nodes_of t))
+  left h1 root link fell t p s g u =
       let b = s.red_black.black.0 in
       let e = shrunk_even lt x t b (even_tree t s.red_black) in
-      begun strict h [] (left_of lt x) lt' h1 h' root (Some p) link t e.level (without x (nodes_of t)) s g.begins
-      u.turned e.even (nodes_of-after_remove strict x t s.ordered) (rises_without lt x (nodes_of t) s.ordered) eh el
+      begun strict h [] (left_of lt x) h1 root (Some p) link t e.level (without x (nodes_of t)) s g.begins
+      u.turned e.even (nodes_of-after_remove strict x t s.ordered) (rises_without lt x (nodes_of t) s.ordered)

@@ -118,11 +118,8 @@ module _ {lt : ℕ → ℕ → Bool} (strict : IsStrict lt) where
   -- the tree on one side
   pub record ShrinksBelow (h : ℕ → Cell) (side : Side) (at : ℕ) (t : Tree) : Type 0 where
     pub tree : Tree
-    pub far : Tree
-    pub is : t ≡ joined_at side (h at).red tree at far
     pub shrinks : IsOrderedTree lt h (child_of side (h at)) tree
     pub lower : height tree + 1 ≤ height t
-    pub apart : is_in at (nodes_of tree) ≡ false
 
   -- the first node below a node is removed by the same steps
   pub shrinks_below : (side : Side) (h : ℕ → Cell) (at : ℕ) (t : Tree) → IsOrderedTree lt h (Some at) t
@@ -131,11 +128,8 @@ module _ {lt : ℕ → ℕ → Bool} (strict : IsStrict lt) where
       let p = parted strict side h at t w.tree w.ordered in
       record {
         tree = p.near;
-        far = p.far;
-        is = p.is;
         shrinks = record { tree = p.near_tree; ordered = p.apart.near_rises };
         lower = p.lower;
-        apart = p.apart.not_near;
       }
 
   -- which is not empty
@@ -151,15 +145,15 @@ module _ {lt : ℕ → ℕ → Bool} (strict : IsStrict lt) where
   pub child_tree : (side : Side) (h : ℕ → Cell) (at child : ℕ) (t : Tree) → IsOrderedTree lt h (Some at) t
       → child_of side (h at) ≡ Some child → HasChild h side at child t
   child_tree side h at child t w e =
-      let b = shrinks_below side h at t w in
-      let shrinks = rw e at b.shrinks in
+      let p = parted strict side h at t w.tree w.ordered in
+      let tree = rw e at p.near_tree in
       record {
-        tree = b.tree;
-        far = b.far;
-        is = b.is;
-        shrinks = shrinks;
-        lower = b.lower;
-        apart = other_than child at (nodes_of b.tree) (root_in h child b.tree shrinks.tree) b.apart;
+        tree = p.near;
+        far = p.far;
+        is = p.is;
+        shrinks = record { tree = tree; ordered = p.apart.near_rises };
+        lower = p.lower;
+        apart = other_than child at (nodes_of p.near) (root_in h child p.near tree) p.apart.not_near;
       }
 
   least_over : (h : ℕ → Cell) (left : ℕ) (l : Tree) (at : ℕ) → IsTree h (Some left) l → least_of at l ≡ least_of left l

@@ -8,21 +8,18 @@ use Rattle.link_tree.specs.Tree.{Tree, leaf, fork, nodes_of, is_sorted, has_blac
 use Rattle.link_tree.specs.Tree.{has_black_height, IsRedBlack}
 use Rattle.link_tree.specs.Nodes.{is_in, without}
 use Rattle.link_tree.specs.Sides.{opposite, tree_on, joined_at}
-use Rattle.link_tree.specs.Turning.{blackened, rebalanced, is_red_tree}
-use Rattle.link_tree.specs.Shrinking.{RemovedSubtree, reddened, mended_at, settled, sunk, least_of, without_least}
+use Rattle.link_tree.specs.Turning.{blackened, painted, rebalanced, is_red_tree}
+use Rattle.link_tree.specs.Shrinking.{RemovedSubtree, mended_at, settled, sunk, least_of, without_least}
 use Rattle.link_tree.specs.Shrinking.{without_root, after_remove}
 use Rattle.link_tree.specs.declared.cursor.Side.{Side}
 use Rattle.link_tree.specs.declared.cursor.Side.TheVariants.{Left, Right}
 use Rattle.link_tree.proofs.trees.OrderedLists.{IsStrict, rises_split, all_at, all_from, is_in-append, in_left}
-use Rattle.link_tree.proofs.trees.OrderedLists.{in_right, not_left}
-use Rattle.link_tree.proofs.trees.OrderedLists.{not_right}
+use Rattle.link_tree.proofs.trees.OrderedLists.{in_right, not_left, not_right}
 use Rattle.link_tree.proofs.trees.OneSided.{fork_joined, joined_opposite, nodes_of-joined, nodes_of-joined_far}
 use Rattle.link_tree.proofs.trees.OneSided.{nodes_of-painted, nodes_of-turn}
 use Rattle.link_tree.proofs.trees.BlackHeights.{blackened_red_black, even_tree, IsEven, IsNearlyEven, black_join}
-use Rattle.link_tree.proofs.trees.BlackHeights.{black_root_join}
-use Rattle.link_tree.proofs.trees.BlackHeights.{red_join, rebalanced_even, nearly_even, under_red, sides_of_red}
-use Rattle.link_tree.proofs.trees.BlackHeights.{even_fork}
-use Rattle.link_tree.proofs.trees.BlackHeights.{blackened_even, blackened_root}
+use Rattle.link_tree.proofs.trees.BlackHeights.{colour_joined, red_join, rebalanced_even, nearly_even, under_red}
+use Rattle.link_tree.proofs.trees.BlackHeights.{sides_of_red, even_fork, blackened_even, blackened_root}
 use Rattle.link_tree.proofs.inserting.Insertion.{nodes_of-rebalanced}
 use Rattle.std.proofs.lemmas.List.{append-nil}
 
@@ -108,8 +105,8 @@ nodes_of-mended side red (fork true l m r) n far =
     let a = tree_on side l r in
     let b = tree_on (opposite side) l r in
     nodes_of-joined_far side false false a m (joined_at side red b n far)
-    (rebalanced side (joined_at side red (reddened b) n far)) (nodes_of-rebalanced side red (reddened b) n far
-    ∙ nodes_of-joined side red red b (reddened b) n far (nodes_of-painted true b))
+    (rebalanced side (joined_at side red (painted true b) n far)) (nodes_of-rebalanced side red (painted true b) n far
+    ∙ nodes_of-joined side red red b (painted true b) n far (nodes_of-painted true b))
     ∙ nodes_of-turn side red true red false a m b n far
     ∙ ap (λ t. nodes_of (joined_at side red t n far)) (sym (fork_joined side true l m r))
 
@@ -203,7 +200,7 @@ sunk_even false t b e =
 no_black : (b : ℕ) → has_black_height leaf (suc b) ≡ true → ⊥
 no_black b e = let z = eqb-true (suc b) 0 e in omega arith
 
-reddened_even : (t : Tree) (b : ℕ) → IsEven t (suc b) → has_black_root t ≡ true → IsNearlyEven (reddened t) b
+reddened_even : (t : Tree) (b : ℕ) → IsEven t (suc b) → has_black_root t ≡ true → IsNearlyEven (painted true t) b
 reddened_even leaf b e k = absurd (no_black b e.black)
 reddened_even (fork true l n r) b e k = absurd (false≢true k)
 reddened_even (fork false l n r) b e k = record { children = e.no_red_pair; black = e.black }
@@ -234,14 +231,14 @@ mended_even side true (fork true l m r) n far b e f k = absurd (false≢true (k 
 mended_even side false (fork true l m r) n far b e f k =
     let s = sides_of_red side l m r (suc b) (nearly_even (fork true l m r) (suc b) e) in
     let a = tree_on side l r in
-    let c = reddened (tree_on (opposite side) l r) in
+    let c = painted true (tree_on (opposite side) l r) in
     let d = rebalanced side (joined_at side false c n far) in
     let low = reddened_even (tree_on (opposite side) l r) b s.far_even (far_black side l m r e.no_red_pair) in
     record {
       level = suc (suc b);
       even = black_join side a m d (suc b) s.near_even (rebalanced_even side c n far b low f);
       total = omega arith;
-      root = λ q g. black_root_join side a m d;
+      root = λ q g. colour_joined side false a m d;
     }
 
 done_even : (side : Side) (red : Bool) (near : Tree) (n : ℕ) (far : Tree) (b : ℕ) → IsEven near b → IsEven far b
@@ -257,7 +254,7 @@ done_even side false near n far b e f k m = record {
   level = suc b;
   even = black_join side near n far b e f;
   total = omega arith;
-  root = λ q g. black_root_join side near n far;
+  root = λ q g. colour_joined side false near n far;
 }
 
 settled_even : (side : Side) (red black : Bool) (rest : RemovedSubtree) (n : ℕ) (far : Tree) (b : ℕ)

@@ -3,8 +3,8 @@ use Rattle.std.proofs.Common.{◌≡◌, ℕ, Bool, true, false, not, Option, So
 use Rattle.link_tree.specs.Tree.{Cell, Tree, root_of, nodes_of, AreCellsOf, IsTree, is_sorted}
 use Rattle.link_tree.specs.Nodes.{is_in, with_red}
 use Rattle.link_tree.specs.Sides.{opposite, child_of, with_child, joined_at}
-use Rattle.link_tree.specs.Turning.{rotated, rebalanced}
-use Rattle.link_tree.specs.Shrinking.{RemovedSubtree, RemovesTo, reddened, mended, mended_at, settled}
+use Rattle.link_tree.specs.Turning.{painted, rotated, rebalanced}
+use Rattle.link_tree.specs.Shrinking.{RemovedSubtree, RemovesTo, mended, mended_at, settled}
 use Rattle.link_tree.specs.declared.cursor.Side.{Side}
 use Rattle.link_tree.specs.declared.cursor.Side.TheVariants.{Left, Right}
 use Rattle.link_tree.proofs.trees.OrderedLists.{IsStrict}
@@ -45,7 +45,7 @@ mended-black Right red a m b n far = refl
 
 pub mended-red : (side : Side) (red : Bool) (a : Tree) (m : ℕ) (b : Tree) (n : ℕ) (far : Tree)
     → mended_at side red (joined_at side true a m b) n far ≡ record {
-      tree = joined_at side false a m (rebalanced side (joined_at side red (reddened b) n far));
+      tree = joined_at side false a m (rebalanced side (joined_at side red (painted true b) n far));
       fell = false;
     }
 mended-red Left red a m b n far = refl
@@ -106,7 +106,7 @@ module _ {lt : ℕ → ℕ → Bool} (strict : IsStrict lt) where
       → IsTree h (Some top) t → is_sorted lt (nodes_of t) ≡ true → child_of side (h top) ≡ Some heavy
       → (h heavy).red ≡ true
       → Makes lt h h1 (Some top) (Some risen) (rotated side)
-      → h2 ≡ with_red h1 heavy false → inner ≡ child_of side (h2 top) → Makes lt h2 h3 inner inner reddened
+      → h2 ≡ with_red h1 heavy false → inner ≡ child_of side (h2 top) → Makes lt h2 h3 inner inner (painted true)
       → Makes lt h3 h4 (Some top) (Some root) (rebalanced side) → ((red : Bool) (near : Tree) (n : ℕ) (far : Tree)
       → nodes_of (rebalanced side (joined_at side red near n far)) ≡ nodes_of (joined_at side red near n far))
       → h5 ≡ with_child (opposite side) h4 heavy (Some root)
@@ -138,7 +138,7 @@ module _ {lt : ℕ → ℕ → Bool} (strict : IsStrict lt) where
       let inner_root : inner ≡ root_of b = e3 ∙ ap (child_of side) joint_low.cell
       ∙ child_of_cell side red (root_of b) (root_of far) in
       let u3 = redden b (record { root = inner_root; holds = joint_low.near_holds }) apart_low.near_rises in
-      let b' = reddened b in
+      let b' = painted true b in
       let b_nodes = nodes_of-painted true b in
       let top_out : is_in top (nodes_of b') ≡ false = ap (is_in top) b_nodes ∙ apart_low.not_near in
       let cell3 = u3.frame top apart_low.not_near ∙ joint_low.cell

@@ -6,19 +6,17 @@ use Rattle.link_tree.specs.Tree.{Cell, Tree, leaf, fork, nodes_of, IsTree, IsSea
 use Rattle.link_tree.specs.Nodes.{is_in, with_left, with_red, without}
 use Rattle.link_tree.specs.Sides.{child_of, joined_at, side_of}
 use Rattle.link_tree.specs.Turning.{blackened}
-use Rattle.link_tree.specs.Shrinking.{RemovedSubtree, IsOrderedTree, RemovesTo, settled, least_of, without_least}
-use Rattle.link_tree.specs.Shrinking.{without_root, uprooted, after_remove}
+use Rattle.link_tree.specs.Shrinking.{IsOrderedTree, RemovesTo, settled, least_of, without_least, without_root}
+use Rattle.link_tree.specs.Shrinking.{uprooted, after_remove}
 use Rattle.link_tree.specs.declared.cursor.Side.{Side}
 use Rattle.link_tree.specs.declared.cursor.Side.TheVariants.{Left, Right}
 use Rattle.link_tree.proofs.trees.OrderedLists.{IsStrict, in_middle}
 use Rattle.link_tree.proofs.inserting.ChangePoint.{blackened_whole}
 use Rattle.link_tree.proofs.trees.Linked.{IsChanged, tree_same, none_some}
 use Rattle.link_tree.proofs.trees.OneSided.{Makes, parted, with_child-other, with_child-near, with_red-other}
-use Rattle.link_tree.proofs.trees.OneSided.{with_red-same}
-use Rattle.link_tree.proofs.trees.OneSided.{outside_all, other_than}
+use Rattle.link_tree.proofs.trees.OneSided.{with_red-same, outside_all, other_than}
 use Rattle.link_tree.proofs.removing.Removal.{without_out, rises_without, rises_skip, nodes_of-after_remove}
-use Rattle.link_tree.proofs.removing.Removal.{nodes_of-settled}
-use Rattle.link_tree.proofs.removing.Removal.{shrunk_red_black}
+use Rattle.link_tree.proofs.removing.Removal.{nodes_of-settled, shrunk_red_black}
 use Rattle.link_tree.proofs.removing.LeastRemoval.{Settles, outside_join, right_left, settle_below, apart_head}
 use Rattle.link_tree.proofs.removing.LeastRemoval.{has_least}
 
@@ -98,11 +96,6 @@ module _ {lt : ℕ → ℕ → Bool} (strict : IsStrict lt) where
 
   -- ---- a tree without a node
 
-  settled_order : (side : Side) (red : Bool) (rest : RemovedSubtree) (n : ℕ) (far : Tree)
-      → is_sorted lt (nodes_of (settled side red rest n far).tree) ≡ true
-      → is_sorted lt (nodes_of (joined_at side red rest.tree n far)) ≡ true
-  settled_order side red rest n far o = ap (is_sorted lt) (sym (nodes_of-settled side red rest n far)) ∙ o
-
   -- a removal goes into the near side, which is settled then
   pub after_remove-joined : (x : ℕ) (side : Side) (red : Bool) (near : Tree) (n : ℕ) (far : Tree) → nat_eq n x ≡ false
       → side_of (lt x n) ≡ side
@@ -131,9 +124,9 @@ module _ {lt : ℕ → ℕ → Bool} (strict : IsStrict lt) where
       let whole = nodes_of-after_remove strict x (joined_at side red p.near at p.far) p.order in
       let is_joined = after_remove-joined x side red p.near at p.far other e in
       let o' : is_sorted lt (nodes_of (joined_at side red (after_remove lt x p.near).tree at p.far)) ≡ true =
-      settled_order side red (after_remove lt x p.near) at p.far
-      (ap (λ r. is_sorted lt (nodes_of r.tree)) (sym is_joined)
-      ∙ ap (is_sorted lt) whole ∙ rises_without lt x (nodes_of (joined_at side red p.near at p.far)) p.order) in
+      ap (is_sorted lt) (sym (nodes_of-settled side red (after_remove lt x p.near) at p.far)
+      ∙ ap (λ r. nodes_of r.tree) (sym is_joined) ∙ whole)
+      ∙ rises_without lt x (nodes_of (joined_at side red p.near at p.far)) p.order in
       let s = settle_below strict side h h1 h2 red p.near at p.far (after_remove lt x p.near) link root fell_below fell
       p.holds p.order u (λ m i. ap (is_in m) nodes ∙ without_out x (nodes_of p.near) m i) o' settle in
       let is : after_remove lt x t ≡ settled side red (after_remove lt x p.near) at p.far =
@@ -144,12 +137,11 @@ module _ {lt : ℕ → ℕ → Bool} (strict : IsStrict lt) where
   -- ---- the whole removal, its root made black
 
   -- a removal with its last step, the black root, makes a search tree
-  pub removed : (lt' : ℕ → ℕ → Bool) (h h1 h2 h' : ℕ → Cell) (root link : Option ℕ) (fell : Bool) (x : ℕ) (t : Tree)
+  pub removed : (h h1 h2 : ℕ → Cell) (root link : Option ℕ) (fell : Bool) (x : ℕ) (t : Tree)
       → IsSearchTree lt h root t → RemovesTo h h1 (nodes_of t) link fell (after_remove lt x t)
-      → Makes lt h1 h2 link link blackened
-      → h' ≡ h2 → lt' ≡ lt → IsChanged lt' h h' link (nodes_of t) (without x (nodes_of t))
-  removed lt' h h1 h2 h' root link fell x t k u black eh el =
-      blackened_whole lt' h h1 h2 h' link (after_remove lt x t).tree (nodes_of t) (without x (nodes_of t)) u.turned
+      → Makes lt h1 h2 link link blackened → IsChanged lt h h2 link (nodes_of t) (without x (nodes_of t))
+  removed h h1 h2 root link fell x t k u black =
+      blackened_whole h h1 h2 link (after_remove lt x t).tree (nodes_of t) (without x (nodes_of t)) u.turned
       black
       (shrunk_red_black lt x t k.red_black) (nodes_of-after_remove strict x t k.ordered)
-      (rises_without lt x (nodes_of t) k.ordered) (without_out x (nodes_of t)) eh el
+      (rises_without lt x (nodes_of t) k.ordered) (without_out x (nodes_of t))

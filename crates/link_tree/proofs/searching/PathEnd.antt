@@ -56,55 +56,37 @@ module _ (h : ℕ → Cell) (before : ℕ → Bool) (x : ℕ) (black : (h x).red
   begins_whole leaf e = absurd (none_some x e)
   begins_whole (fork red l n r) e = e
 
--- only the path of an empty tree has no last node
-path_some : (before : ℕ → Bool) (n : ℕ) (t : Tree) → last_on before (Some n) t ≡ None → ⊥
-path_some before n leaf e = none_some n (sym e)
-path_some before n (fork red l m r) e =
-    elim (cases_Bool (before m)) [
-      | inl b ↦ path_some before m r (rw b at e)
-      | inr b ↦ path_some before m l (rw b at e)
-    ]
-
-no_path : (before : ℕ → Bool) (t : Tree) → last_on before None t ≡ None → t ≡ leaf
-no_path before leaf e = refl
-no_path before (fork red l n r) e =
-    elim (cases_Bool (before n)) [
-      | inl b ↦ absurd (path_some before n r (rw b at e))
-      | inr b ↦ absurd (path_some before n l (rw b at e))
-    ]
-
--- the last node is one of the tree, or the one above it
-last_in : (before : ℕ → Bool) (x : ℕ) (above : Option ℕ) (t : Tree) → last_on before above t ≡ Some x
-    → (above ≡ Some x) ⊎ (is_in x (nodes_of t) ≡ true)
-last_in before x above leaf e = inl e
-last_in before x above (fork red l n r) e =
-    elim (cases_Bool (before n)) [
-      | inl b ↦
-          let f = rw b at e in
-          elim (last_in before x (Some n) r f) [
-            | inl k ↦ inr (rw (sym (some_same n x k)) (in_middle (nodes_of l) n (nodes_of r)))
-            | inr i ↦ inr (in_right x (nodes_of l) n (nodes_of r) i)
-          ]
-      | inr b ↦
-          let f = rw b at e in
-          elim (last_in before x (Some n) l f) [
-            | inl k ↦ inr (rw (sym (some_same n x k)) (in_middle (nodes_of l) n (nodes_of r)))
-            | inr i ↦ inr (in_left x (nodes_of l) n (nodes_of r) i)
-          ]
-    ]
+-- the tree is empty, or the last node is one of the tree
+last_in : (before : ℕ → Bool) (above : Option ℕ) (t : Tree) → ((t ≡ leaf) × (last_on before above t ≡ above))
+    ⊎ ((x : ℕ) × (last_on before above t ≡ Some x) × (is_in x (nodes_of t) ≡ true))
+last_in before above leaf = inl (refl, refl)
+last_in before above (fork red l n r) =
+    inr (elim (cases_Bool (before n)) [
+      | inl b ↦ elim (last_in before (Some n) r) [
+        | inl p ↦ (n, rw b p.1, in_middle (nodes_of l) n (nodes_of r))
+        | inr p ↦ (p.0, rw b p.1, in_right p.0 (nodes_of l) n (nodes_of r) p.2)
+      ]
+      | inr b ↦ elim (last_in before (Some n) l) [
+        | inl p ↦ (n, rw b p.1, in_middle (nodes_of l) n (nodes_of r))
+        | inr p ↦ (p.0, rw b p.1, in_left p.0 (nodes_of l) n (nodes_of r) p.2)
+      ]
+    ])
 
 module _ (good : ℕ → Bool) (h : ℕ → Cell) (before : ℕ → Bool) (t : Tree) (holds : AreCellsOf h t)
     (all_good : (m : ℕ) → is_in m (nodes_of t) ≡ true → good m ≡ true) where
-  end_of : (o : Option ℕ) → last_on before None t ≡ o → EndsPath good h before t o
-  end_of None e = rw (no_path before t e) refl
-  end_of (Some x) e = record {
-    node = elim (last_in before x None t e) [ inl k ↦ absurd (none_some x k) | inr i ↦ all_good x i ];
-    black = λ black. begins_whole h before x black t (begins_at h before x black None t holds e);
-  }
+  end_of : (o : Option ℕ) → o ≡ last_on before None t → EndsPath good h before t o
+  end_of o e =
+      elim (last_in before None t) [
+        | inl p ↦ rw (e ∙ p.1, p.0) refl
+        | inr p ↦ rw (e ∙ p.1) (record {
+          node = all_good p.0 p.2;
+          black = λ black. begins_whole h before p.0 black t (begins_at h before p.0 black None t holds p.1);
+        })
+      ]
 
   -- a search ends at the last node of its path
   pub ends_at : (folded : Reached) → folded ≡ noted reached before (record { node = None; last = None }) t
       → EndsPath good h before t folded.last
   ends_at folded e =
       let start : Reached = record { node = None; last = None } in
-      end_of folded.last (sym (ap (λ (m : Reached). m.last) e ∙ last_noted before start t))
+      end_of folded.last (ap (λ (m : Reached). m.last) e ∙ last_noted before start t)

@@ -187,11 +187,11 @@ blackened_red_black t b e pairs =
           record { root = blackened_root t; no_red_pair = even.no_red_pair; black = (suc b, even.black) }
     ]
 
--- a tree made of a black node has a black root
-pub black_root_join : (side : Side) (near : Tree) (n : ℕ) (far : Tree)
-    → has_black_root (joined_at side false near n far) ≡ true
-black_root_join Left near n far = refl
-black_root_join Right near n far = refl
+-- the colour of a root seen from a side
+pub colour_joined : (side : Side) (red : Bool) (near : Tree) (n : ℕ) (far : Tree)
+    → has_black_root (joined_at side red near n far) ≡ not red
+colour_joined Left red near n far = refl
+colour_joined Right red near n far = refl
 
 inner_even : (side : Side) (a : Tree) (m : ℕ) (c : Tree) (n : ℕ) (far : Tree) (b : ℕ) → IsEven a b
     → has_black_root a ≡ true → IsEven c b → IsEven far b → IsEven (balanced_inner side a m c n far) (suc b)
@@ -205,8 +205,8 @@ inner_even side a m (fork true p q r) n far b ea k ec ef =
     let x = tree_on side p r in
     let y = tree_on (opposite side) p r in
     red_join side (joined_at side false a m x) q (joined_at side false y n far) (suc b)
-    (black_join side a m x b ea s.near_even) (black_join side y n far b s.far_even ef) (black_root_join side a m x)
-    (black_root_join side y n far)
+    (black_join side a m x b ea s.near_even) (black_join side y n far b s.far_even ef) (colour_joined side false a m x)
+    (colour_joined side false y n far)
 
 outer_even : (side : Side) (a : Tree) (m : ℕ) (c : Tree) (n : ℕ) (far : Tree) (b : ℕ) → IsEven a b → IsEven c b
     → IsEven far b → IsEven (balanced_outer side a m c n far) (suc b)
@@ -214,7 +214,7 @@ outer_even side a m c n far b ea ec ef =
     elim (cases_Bool (is_red_tree a)) [
       | inl e ↦ rw e (red_join side (blackened a) m (joined_at side false c n far) (suc b)
           (blackened_even a b (nearly_even a b ea) e)
-          (black_join side c n far b ec ef) (blackened_root a) (black_root_join side c n far))
+          (black_join side c n far b ec ef) (blackened_root a) (colour_joined side false c n far))
       | inr e ↦ rw e (inner_even side a m c n far b ea (not-false (has_black_root a) e) ec ef)
     ]
 
@@ -258,9 +258,3 @@ pub rebalanced_red : (side : Side) (near : Tree) (n : ℕ) (far : Tree)
     → rebalanced side (joined_at side true near n far) ≡ joined_at side true near n far
 rebalanced_red Left near n far = refl
 rebalanced_red Right near n far = refl
-
--- a tree made of a red node has no black root
-pub red_of_join : (side : Side) (near : Tree) (n : ℕ) (far : Tree)
-    → has_black_root (joined_at side true near n far) ≡ false
-red_of_join Left near n far = refl
-red_of_join Right near n far = refl

@@ -9,8 +9,7 @@ use Rattle.link_tree.specs.Turning.{BecomesTree, rotated, painted}
 use Rattle.link_tree.specs.declared.cursor.Side.{Side}
 use Rattle.link_tree.specs.declared.cursor.Side.TheVariants.{Left, Right}
 use Rattle.link_tree.proofs.trees.OrderedLists.{IsStrict, rises_split, in_left, in_right, in_middle, outside_parts}
-use Rattle.link_tree.proofs.trees.OrderedLists.{not_left}
-use Rattle.link_tree.proofs.trees.OrderedLists.{not_right, not_both}
+use Rattle.link_tree.proofs.trees.OrderedLists.{not_left, not_right, not_both}
 use Rattle.link_tree.proofs.trees.Linked.{open_tree}
 
 -- a cell by its side

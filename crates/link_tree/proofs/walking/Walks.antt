@@ -10,28 +10,41 @@ use Rattle.link_tree.proofs.trees.Linked.{open_tree, some_same, root_in}
 
 -- a walk stands at a node: the left tree is ahead of it, and the right one from wherever the walk over the left one
 -- ends
-pub record AreAhead (lt : ℕ → ℕ → Bool) (h : ℕ → Cell) (n levels : ℕ) (here : Option ℕ) (ns : List ℕ) : Type 0 where
+pub record AreAhead (lt : ℕ → ℕ → Bool) (h : ℕ → Cell) (n levels : ℕ) (left_link right_link here : Option ℕ)
+    (ns : List ℕ) : Type 0 where
   pub left : Tree
   pub right : Tree
   pub nodes : ns ≡ nodes_of left ++ n ∷ nodes_of right
   pub size : length ns ≡ length (nodes_of left) + length (nodes_of right) + 1
   pub positive : 0 < levels
   pub comes : here ≢ Some n
-  pub left_ahead : (at_node : Option ℕ) → at_node ≡ Some n → IsAhead lt h (h n).left (levels - 1) at_node left
+  pub left_ahead : (at_node : Option ℕ) → at_node ≡ Some n → IsAhead lt h left_link (levels - 1) at_node left
   pub right_ahead : (at_node later : Option ℕ) → at_node ≡ Some n
-      → ((m : ℕ) → is_in m (nodes_of left) ≡ false → at_node ≢ Some m → later ≢ Some m)
-      → IsAhead lt h (h n).right (levels - 1) later right
+      → ((t : Tree) → IsAhead lt h left_link (levels - 1) at_node t → (m : ℕ)
+      → is_in m (nodes_of t) ≡ false → at_node ≢ Some m → later ≢ Some m)
+      → IsAhead lt h right_link (levels - 1) later right
 
 -- the nodes ahead of a walk at a node are the nodes from this one on
-pub ahead_at : {lt : ℕ → ℕ → Bool} → IsStrict lt → (h : ℕ → Cell) (n levels : ℕ) (link here : Option ℕ) (t : Tree)
-    → link ≡ Some n → IsAhead lt h link levels here t → AreAhead lt h n levels here (nodes_of t)
-ahead_at {lt = lt} strict h n levels link here t e a =
+pub ahead_at : {lt : ℕ → ℕ → Bool} → IsStrict lt → (h : ℕ → Cell) (n levels : ℕ)
+    (link left_link right_link here : Option ℕ) (t : Tree) → link ≡ Some n → left_link ≡ (h n).left
+    → right_link ≡ (h n).right → IsAhead lt h link levels here t
+    → AreAhead lt h n levels left_link right_link here (nodes_of t)
+ahead_at {lt = lt} strict h n levels link left_link right_link here t e left right a =
     let w : IsTree h (Some n) t = rw e at a.tree in
     let o = open_tree h n t w in
     let l = nodes_of o.left in
     let r = nodes_of o.right in
     let low = rw o.is at a.low in
     let sp = rises_split lt l n r (rw o.is at a.ordered) in
+    let left_ahead : (at_node : Option ℕ) → at_node ≡ Some n → IsAhead lt h left_link (levels - 1) at_node o.left =
+    λ at_node f. record {
+      tree = rw left o.left_tree;
+      ordered = sp.left;
+      low = omega arith;
+      away = λ m i k.
+          let same : n ≡ m = some_same n m (sym f ∙ k) in
+          true≢false (sym (rw (← same) at i) ∙ not_left strict l n r sp);
+    } in
     record {
       left = o.left;
       right = o.right;
@@ -39,55 +52,15 @@ ahead_at {lt = lt} strict h n levels link here t e a =
       size = ap (λ u. length (nodes_of u)) o.is ∙ omega (arith, length-append l (n ∷ r));
       positive = omega arith;
       comes = a.away n (root_in h n t w);
-      left_ahead = λ at_node f. record {
-        tree = o.left_tree;
-        ordered = sp.left;
-        low = omega arith;
-        away = λ m i k.
-            let same : n ≡ m = some_same n m (sym f ∙ k) in
-            true≢false (sym (rw (← same) at i) ∙ not_left strict l n r sp);
-      };
-      right_ahead = λ at_node later f stays. record {
-        tree = o.right_tree;
+      left_ahead = left_ahead;
+      right_ahead = λ at_node later f stands. record {
+        tree = rw right o.right_tree;
         ordered = sp.right;
         low = omega arith;
         away = λ m i.
-            stays m (false_from_ne_true (is_in m l) (λ j. true≢false (sym i ∙ not_both strict l n r sp m j))) (λ k.
+            stands o.left (left_ahead at_node f) m
+            (false_from_ne_true (is_in m l) (λ j. true≢false (sym i ∙ not_both strict l n r sp m j))) (λ k.
             let same : n ≡ m = some_same n m (sym f ∙ k) in
             true≢false (sym (rw (← same) at i) ∙ not_right strict l n r sp));
       };
-    }
-
--- both walks below a node are ahead: one over the left tree from the node, and one over the right tree from where the
--- first one ends
-pub record BothAhead {S : Type 0} (order : S → ℕ → ℕ → Bool) (cells : S → ℕ → Cell) (n levels : ℕ) (ns : List ℕ)
-    (s s' : S) (left_link here right_link later : Option ℕ) : Type 0 where
-  pub left : Tree
-  pub right : Tree
-  pub nodes : ns ≡ nodes_of left ++ n ∷ nodes_of right
-  pub size : length ns ≡ length (nodes_of left) + length (nodes_of right) + 1
-  pub positive : 0 < levels
-  pub left_ahead : IsAhead (order s) (cells s) left_link (levels - 1) here left
-  pub right_ahead : IsAhead (order s') (cells s') right_link (levels - 1) later right
-
--- walks to both sides of a node meet all nodes
-pub both_ahead : {S : Type 0} (order : S → ℕ → ℕ → Bool) (cells : S → ℕ → Cell) (n levels : ℕ) (ns : List ℕ)
-    (s s' s'' : S) (left_link here right_link later before : Option ℕ)
-    → AreAhead (order s) (cells s) n levels before ns → here ≡ Some n
-    → ((t : Tree) → IsAhead (order s') (cells s') left_link (levels - 1) here t → (m : ℕ)
-    → is_in m (nodes_of t) ≡ false → here ≢ Some m → later ≢ Some m)
-    → s' ≡ s → s'' ≡ s → left_link ≡ (cells s n).left → right_link ≡ (cells s n).right
-    → BothAhead order cells n levels ns s' s'' left_link here right_link later
-both_ahead order cells n levels ns s s' s'' left_link here right_link later before p at_node stands same same' is_left
-    is_right =
-    let first : IsAhead (order s') (cells s') left_link (levels - 1) here p.left =
-    rw (same, is_left) (p.left_ahead here at_node) in
-    record {
-      left = p.left;
-      right = p.right;
-      nodes = p.nodes;
-      size = p.size;
-      positive = p.positive;
-      left_ahead = first;
-      right_ahead = rw (same', is_right) (p.right_ahead here later at_node (stands p.left first));
     }

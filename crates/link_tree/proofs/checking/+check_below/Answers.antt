@@ -10,9 +10,8 @@ use Rattle.link_tree.proofs.checking.Soundness.{sound_fork, parts_of, HasParts, 
 use Rattle.link_tree.proofs.checking.Soundness.{part_size}
 use Rattle.link_tree.proofs.trees.NodeLaws.{strict}
 use Rattle.link_tree.proofs.checking.+check_below.Goals as goal
-use Rattle.link_tree.proofs.checking.+check_below.Goals.{After-red-red, After-right-right}
-use Rattle.link_tree.proofs.checking.+check_below.Goals.{else-red-via-then-red+else-red_above}
-use Rattle.link_tree.proofs.checking.+check_below.Goals.{else-red-via-else-red}
+use Rattle.link_tree.proofs.checking.+check_below.Goals.{After-red-red, After-child-right}
+use Rattle.link_tree.proofs.checking.+check_below.Goals.{else-red-via-then-red+else-red_above, else-red-via-else-red}
 use Rattle.link_tree.proofs.checking.+check_below.Given.{Over}
 
 -- ---- arithmetic: `a` steps before, `b` once the node is read, `d` and `e` after its parts
@@ -45,9 +44,6 @@ fits_nodes a k k' A B C few parts room = omega arith
 
 fits_less : (k : ℕ) → Fits w64 (k + 1) → Fits w64 k
 fits_less k h = omega arith
-
-sum_most : (a b c d : ℕ) → a ≤ c → b ≤ d → a + b ≤ c + d
-sum_most a b c d p q = omega arith
 
 lower_than : (h u l : ℕ) → h + 1 ≤ u → u ≤ l → h ≤ l - 1
 lower_than h u l below most = omega arith
@@ -96,10 +92,9 @@ Spends g s link low high steps steps' found =
     → steps' ≤ steps + 5 * count g s low high ns + (if found then 0 else 5)
 
 -- what is known of a node that stands between the bounds, once it is read
-record IsRead (g : Over) (s now : g.row.N.Denot) (link : Option ℕ) (n : ℕ) (low high left right : Option ℕ) (red : Bool)
+record IsRead (g : Over) (s : g.row.N.Denot) (link : Option ℕ) (n : ℕ) (low high left right : Option ℕ) (red : Bool)
     (start end : ℕ) : Type 0 where
   is : link ≡ Some n
-  here : now ≡ s
   above : is_above (g.N.Nodes.order s) low n ≡ true
   below : is_below (g.N.Nodes.order s) n high ≡ true
   left_is : left ≡ (g.N.Nodes.cells s n).left
@@ -107,35 +102,30 @@ record IsRead (g : Over) (s now : g.row.N.Denot) (link : Option ℕ) (n : ℕ) (
   red_is : red ≡ (g.N.Nodes.cells s n).red
   few : end ≤ start + 5
 
-read : (g : Over) (t : ℕ) (c : After-right-right g t)
-    → IsRead g c.args.visits.now.nodes.now c.right-right.new.self.nodes.now c.args.link c.in-Some.node c.args.low
-    c.args.high c.left-left.result c.right-right.result c.red-red.result c.args.visits.now.steps
-    c.right-right.new.self.steps
+read : (g : Over) (t : ℕ) (c : After-child-right g t)
+    → IsRead g c.args.nodes.now c.args.link c.in-Some.node c.args.low c.args.high c.child-left.result
+    c.child-right.result c.red-red.result c.args.visits.now.steps c.child-right.new.self.steps
 read g t c =
-    let s = c.args.visits.now.nodes.now in
+    let s = c.args.nodes.now in
     let n = c.in-Some.node in
-    let e2 : c.stands_between.new.visits.nodes.now ≡ s = c.stands_between.ensures.nodes in
     let stands = and_parts (is_above (g.N.Nodes.order s) c.args.low n) (is_below (g.N.Nodes.order s) n c.args.high)
     (sym c.stands_between.ensures.value ∙ c.if-not-stands_between.false) in
-    let e3 : c.red-red.new.self.nodes.now ≡ s = c.red-red.ensures.nodes ∙ e2 in
-    let e4 : c.left-left.new.self.nodes.now ≡ s = c.left-left.ensures.nodes ∙ e3 in
     record {
       is = c.in-Some.is;
-      here = c.right-right.ensures.nodes ∙ e4;
       above = stands.0;
       below = stands.1;
-      left_is = c.left-left.ensures.value ∙ ap (λ (x : g.row.N.Denot). (g.N.Nodes.cells x n).left) e3;
-      right_is = c.right-right.ensures.value ∙ ap (λ (x : g.row.N.Denot). (g.N.Nodes.cells x n).right) e4;
-      red_is = c.red-red.ensures.value ∙ ap (λ (x : g.row.N.Denot). (g.N.Nodes.cells x n).red) e2;
+      left_is = c.child-left.ensures.value;
+      right_is = c.child-right.ensures.value;
+      red_is = c.red-red.ensures.value;
       few = five _ _ _ _ _ c.stands_between.ensures.steps_upper c.red-red.ensures.steps_upper
-          (c.left-left.ensures.unchanged c.red-red.ensures.position)
-          (c.right-right.ensures.unchanged c.left-left.ensures.position);
+          (c.child-left.ensures.unchanged c.red-red.ensures.position)
+          (c.child-right.ensures.unchanged c.child-left.ensures.position);
     }
 
 -- ---- what the node says of the parts below it, which calls see through equal values
 
-module _ {g : Over} {s now : g.row.N.Denot} {link : Option ℕ} {n : ℕ} {low high left right : Option ℕ} {red : Bool}
-    {start end : ℕ} (r : IsRead g s now link n low high left right red start end) where
+module _ {g : Over} {s : g.row.N.Denot} {link : Option ℕ} {n : ℕ} {low high left right : Option ℕ} {red : Bool}
+    {start end : ℕ} (r : IsRead g s link n low high left right red start end) where
   -- it parts a closed list
   split : (ns : List ℕ) → leads (λ m. is_in m ns) link ≡ true
       → count g s low (Some n) ns + count g s (Some n) high ns + 1 ≤ count g s low high ns
@@ -156,57 +146,47 @@ module _ {g : Over} {s now : g.row.N.Denot} {link : Option ℕ} {n : ℕ} {low h
   closed_on ns closed k =
       let i = subst (λ (o : Option ℕ). leads (λ m. is_in m ns) o ≡ true) r.is k in (closed.left n i, closed.right n i)
 
-  asked_left : leads (g.N.Nodes.is_node s) link ≡ true → leads (g.N.Nodes.is_node s) low ≡ true
-      → Room g s link low high start
-      → (leads (g.N.Nodes.is_node now) left ≡ true) × ((leads (g.N.Nodes.is_node now) low ≡ true)
-      × ((g.N.Nodes.is_node now n ≡ true) × Room g now left low (Some n) end))
-  asked_left good good_low room =
-      let node : g.N.Nodes.is_node s n ≡ true = rw r.is at good in
-      let fits = room_left _ _ _ _ _ r.few (split room.0 room.2) room.3 in
-      rw (r.here, r.left_is) (
-        g.met.N.Nodes.left_closed s n node,
-        (good_low, (node, (room.0, room.1, (closed_on room.0 room.1 room.2).0, fits))),
-      )
+  room_before : Room g s link low high start → Room g s left low (Some n) end
+  room_before room = (
+    room.0,
+    room.1,
+    rw r.left_is (closed_on room.0 room.1 room.2).0,
+    room_left _ _ _ _ _ r.few (split room.0 room.2) room.3,
+  )
 
-  asked_right : (later : g.row.N.Denot) (end' : ℕ) → later ≡ now → leads (g.N.Nodes.is_node s) link ≡ true
-      → leads (g.N.Nodes.is_node s) high ≡ true → (room : Room g s link low high start)
-      → end' ≤ end + 5 * count g s low (Some n) room.0 + 0
-      → (leads (g.N.Nodes.is_node later) right ≡ true) × ((g.N.Nodes.is_node later n ≡ true)
-      × ((leads (g.N.Nodes.is_node later) high ≡ true) × Room g later right (Some n) high end'))
-  asked_right later end' e good good_high room spent =
-      let node : g.N.Nodes.is_node s n ≡ true = rw r.is at good in
-      let fits = room_right _ _ _ _ _ _ r.few spent (split room.0 room.2) room.3 in
-      rw (e, r.here, r.right_is) (
-        g.met.N.Nodes.right_closed s n node,
-        (node, (good_high, (room.0, room.1, (closed_on room.0 room.1 room.2).1, fits))),
-      )
+  room_behind : (end' : ℕ) (room : Room g s link low high start) → end' ≤ end + 5 * count g s low (Some n) room.0 + 0
+      → Room g s right (Some n) high end'
+  room_behind end' room spent = (
+    room.0,
+    room.1,
+    rw r.right_is (closed_on room.0 room.1 room.2).1,
+    room_right _ _ _ _ _ _ r.few spent (split room.0 room.2) room.3,
+  )
 
-  found_on : (later : g.row.N.Denot) (part part' from to : Option ℕ) (b k : ℕ) → later ≡ now → part ≡ part'
-      → Found g later part from to red b k → Found g s part' from to (g.N.Nodes.cells s n).red b k
-  found_on later part part' from to b k e is w = rw (e, r.here, is, r.red_is) at w
+  found_on : {part part' from to : Option ℕ} {b k : ℕ} → part ≡ part'
+      → Found g s part from to red b k → Found g s part' from to (g.N.Nodes.cells s n).red b k
+  found_on is w = rw (is, r.red_is) at w
 
-  finds_on : (later : g.row.N.Denot) (part part' from to : Option ℕ) (levels : ℕ) (found : Bool) → later ≡ now
-      → part ≡ part' → Finds g later part from to red levels found
-      → Finds g s part' from to (g.N.Nodes.cells s n).red levels found
-  finds_on later part part' from to levels found e is finds = rw (e, r.here, is, r.red_is) at finds
+  finds_on : {part part' from to : Option ℕ} {levels : ℕ} {found : Bool} → part ≡ part'
+      → Finds g s part from to red levels found → Finds g s part' from to (g.N.Nodes.cells s n).red levels found
+  finds_on is finds = rw (is, r.red_is) at finds
 
-  spent_on : (later : g.row.N.Denot) (part part' from to : Option ℕ) (ns : List ℕ) (end' end'' : ℕ) (found is : Bool)
-      → later ≡ now → part ≡ part' → IsLinkClosed (g.N.Nodes.cells s) ns → leads (λ m. is_in m ns) part' ≡ true
-      → found ≡ is → Spends g later part from to end' end'' found
+  spent_on : {part part' : Option ℕ} (from to : Option ℕ) (ns : List ℕ) (end' : ℕ) {end'' : ℕ} {found : Bool}
+      (is : Bool) → part ≡ part' → IsLinkClosed (g.N.Nodes.cells s) ns → leads (λ m. is_in m ns) part' ≡ true
+      → found ≡ is → Spends g s part from to end' end'' found
       → end'' ≤ end' + 5 * count g s from to ns + (if is then 0 else 5)
-  spent_on later part part' from to ns end' end'' found is e p closed k f told =
-      let here = rw (e, r.here, p, f) at told in here ns closed k
+  spent_on from to ns end' is p closed k f told =
+      let here = rw (p, f) at told in here ns closed k
 
-  spent_both : (ns : List ℕ) (later : g.row.N.Denot) (end' end'' : ℕ) (found found' is : Bool)
-      → IsLinkClosed (g.N.Nodes.cells s) ns → leads (λ m. is_in m ns) link ≡ true → found ≡ true → later ≡ now
-      → found' ≡ is → Spends g now left low (Some n) end end' found
-      → Spends g later right (Some n) high end' end'' found'
+  spent_both : (ns : List ℕ) (end' : ℕ) {end'' : ℕ} {found found' : Bool} (is : Bool)
+      → IsLinkClosed (g.N.Nodes.cells s) ns → leads (λ m. is_in m ns) link ≡ true → found ≡ true
+      → found' ≡ is → Spends g s left low (Some n) end end' found
+      → Spends g s right (Some n) high end' end'' found'
       → end'' ≤ start + 5 * count g s low high ns + (if is then 0 else 5)
-  spent_both ns later end' end'' found found' is closed k f e f' told told' =
+  spent_both ns end' is closed k f f' told told' =
       let c = closed_on ns closed k in
-      steps_right _ _ _ _ _ _ _ _ r.few (spent_on now left _ low (Some n) ns end end' found true refl r.left_is closed
-      c.0 f told)
-      (spent_on later right _ (Some n) high ns end' end'' found' is e r.right_is closed c.1 f' told') (split ns k)
+      steps_right _ _ _ _ _ _ _ _ r.few (spent_on low (Some n) ns end true r.left_is closed c.0 f told)
+      (spent_on (Some n) high ns end' is r.right_is closed c.1 f' told') (split ns k)
 
   -- two parts have no more nodes than the closed list has on both sides of the node
   sizes : (ns : List ℕ) (b b' k k' : ℕ) → IsLinkClosed (g.N.Nodes.cells s) ns → leads (λ m. is_in m ns) link ≡ true
@@ -219,7 +199,7 @@ module _ {g : Over} {s now : g.row.N.Denot} {link : Option ℕ} {n : ℕ} {low h
       (Some n) (h n).red before.0 b (closed_on ns closed l).0 before.1 in
       let size' = part_size (strict g.met.N.Nodes s) h ns closed (h n).right
       (Some n) high (h n).red behind.0 b' (closed_on ns closed l).1 behind.1 in
-      rw (← before.2, ← behind.2) (sum_most _ _ _ _ size size')
+      rw (← before.2, ← behind.2) (omega (arith, size, size'))
 
   -- two parts and the node between them
   joined : (red_above : Bool) (b b' k k' level : ℕ)
@@ -243,7 +223,7 @@ module _ {g : Over} {s now : g.row.N.Denot} {link : Option ℕ} {n : ℕ} {low h
 
 pub returns-then-not-stands_between-clause-complete : goal.returns-then-not-stands_between-clause-complete
 returns-then-not-stands_between-clause-complete g t c = λ u b k lower.
-    let s = c.args.visits.now.nodes.now in
+    let s = c.args.nodes.now in
     let here = subst (λ (o : Option ℕ). Sound g s o c.args.low c.args.high c.args.red_above u b) c.in-Some.is k in
     let p = parts_of (strict g.met.N.Nodes s) (g.N.Nodes.cells s)
     c.in-Some.node c.args.low c.args.high c.args.red_above u b here in
@@ -253,11 +233,11 @@ returns-then-not-stands_between-clause-complete g t c = λ u b k lower.
 
 -- the node parts those of the closed list
 counted : (g : Over) (t : ℕ) (c : After-red-red g t)
-    → count g c.args.visits.now.nodes.now c.args.low (Some c.in-Some.node) c.requires.no_overflow.0
-    + count g c.args.visits.now.nodes.now (Some c.in-Some.node) c.args.high c.requires.no_overflow.0 + 1
-    ≤ count g c.args.visits.now.nodes.now c.args.low c.args.high c.requires.no_overflow.0
+    → count g c.args.nodes.now c.args.low (Some c.in-Some.node) c.requires.no_overflow.0
+    + count g c.args.nodes.now (Some c.in-Some.node) c.args.high c.requires.no_overflow.0 + 1
+    ≤ count g c.args.nodes.now c.args.low c.args.high c.requires.no_overflow.0
 counted g t c =
-    let s = c.args.visits.now.nodes.now in
+    let s = c.args.nodes.now in
     let n = c.in-Some.node in
     let ns = c.requires.no_overflow.0 in
     let h = g.N.Nodes.cells s in
@@ -267,78 +247,79 @@ counted g t c =
     counts_split (strict g.met.N.Nodes s) h ns n c.args.low c.args.high listed
     stands.0 stands.1
 
-pub left-left-requires-clause-no_overflow : goal.left-left-requires-clause-no_overflow
-left-left-requires-clause-no_overflow g t c =
+pub child-left-requires-clause-no_overflow : goal.child-left-requires-clause-no_overflow
+child-left-requires-clause-no_overflow g t c =
     room_read _ _ _ _ _ _ c.stands_between.ensures.steps_upper c.red-red.ensures.steps_upper
-    (counted g t (goal.at.left-left-requires-clause-no_overflow g t c).After-red-red) c.requires.no_overflow.3
+    (counted g t (goal.at.child-left-requires-clause-no_overflow g t c).After-red-red) c.requires.no_overflow.3
 
-pub right-right-requires-clause-no_overflow : goal.right-right-requires-clause-no_overflow
-right-right-requires-clause-no_overflow g t c =
+pub child-right-requires-clause-no_overflow : goal.child-right-requires-clause-no_overflow
+child-right-requires-clause-no_overflow g t c =
     room_read _ _ _ _ _ _ c.stands_between.ensures.steps_upper
-    (rw (c.left-left.ensures.unchanged c.red-red.ensures.position) c.red-red.ensures.steps_upper)
-    (counted g t (goal.at.right-right-requires-clause-no_overflow g t c).After-red-red) c.requires.no_overflow.3
+    (rw (c.child-left.ensures.unchanged c.red-red.ensures.position) c.red-red.ensures.steps_upper)
+    (counted g t (goal.at.child-right-requires-clause-no_overflow g t c).After-red-red) c.requires.no_overflow.3
 
 pub check_below-requires : goal.check_below-requires
 check_below-requires g t c =
-    let r = read g t (goal.at.check_below-requires g t c).After-right-right in
-    let asked = asked_left r c.requires.link c.requires.min_value c.requires.no_overflow in
+    let r = read g t (goal.at.check_below-requires g t c).After-child-right in
+    let good = c.child-left.ensures.link_target in
+    let node : g.N.Nodes.is_node c.args.nodes.now c.in-Some.node ≡ true = rw c.in-Some.is at c.requires.link in
+    let room = room_before r c.requires.no_overflow in
+    let less = falls _ _ c.decreases c.if-levels-eq0.false in
     let deep = one_less _ c.requires.height in
-    λ κs lives. (falls _ _ c.decreases c.if-levels-eq0.false, (lives.0, (lives.1, (deep, asked))))
+    λ κs lives. (less, (lives.0, (lives.1, (deep, (good, (c.requires.min_value, (node, room)))))))
 
 pub returns-in_default-check_below-clause-complete : goal.returns-in_default-check_below-clause-complete
 returns-in_default-check_below-clause-complete g t c = λ u b k lower.
-    let r = read g t (goal.at.returns-in_default-check_below-clause-complete g t c).After-right-right in
+    let r = read g t (goal.at.returns-in_default-check_below-clause-complete g t c).After-child-right in
     let p = parts r c.args.red_above u b k in
-    let finds = finds_on r _ _ _ _ _ _ _ refl r.left_is c.check_below.ensures.complete in
+    let finds = finds_on r r.left_is c.check_below.ensures.complete in
     sym (ap is_some c.in_default-check_below.is)
     ∙ finds p.left p.level p.left_sound (lower_than _ _ _ p.left_lower lower)
 
 pub returns-in_default-check_below-clause-steps : goal.returns-in_default-check_below-clause-steps
 returns-in_default-check_below-clause-steps g t c = λ ns closed k.
-    let r = read g t (goal.at.returns-in_default-check_below-clause-steps g t c).After-right-right in
-    let first = spent_on r _ _ _ c.args.low (Some c.in-Some.node) ns _ _ _ false refl r.left_is closed
-    (closed_on r ns closed k).0
+    let r = read g t (goal.at.returns-in_default-check_below-clause-steps g t c).After-child-right in
+    let first = spent_on r c.args.low (Some c.in-Some.node) ns _ false r.left_is closed (closed_on r ns closed k).0
     (ap is_some c.in_default-check_below.is) c.check_below.ensures.steps in
     steps_left _ _ _ _ _ _ r.few first (split r ns k)
 
 pub check_below-requires-2 : goal.check_below-requires-2
 check_below-requires-2 g t c =
-    let r = read g t (goal.at.check_below-requires-2 g t c).After-right-right in
+    let r = read g t (goal.at.check_below-requires-2 g t c).After-child-right in
     let ns = c.requires.no_overflow.0 in
     let closed = c.requires.no_overflow.1 in
     let k = c.requires.no_overflow.2 in
-    let first = spent_on r _ _ _ c.args.low (Some c.in-Some.node) ns _ _ _ true refl r.left_is closed
-    (closed_on r ns closed k).0
+    let first = spent_on r c.args.low (Some c.in-Some.node) ns _ true r.left_is closed (closed_on r ns closed k).0
     (ap is_some c.in-Some-check_below.is) c.check_below.ensures.steps in
-    let asked = asked_right r c.check_below.new.visits.nodes.now c.check_below.new.visits.steps
-    c.check_below.ensures.nodes c.requires.link c.requires.max_value c.requires.no_overflow first in
+    let good = c.child-right.ensures.link_target in
+    let node : g.N.Nodes.is_node c.args.nodes.now c.in-Some.node ≡ true = rw c.in-Some.is at c.requires.link in
+    let room = room_behind r c.check_below.new.visits.steps c.requires.no_overflow first in
+    let less = falls _ _ c.decreases c.if-levels-eq0.false in
     let deep = one_less _ c.requires.height in
-    λ κs lives. (falls _ _ c.decreases c.if-levels-eq0.false, (lives.0, (lives.1, (deep, asked))))
+    λ κs lives. (less, (lives.0, (lives.1, (deep, (good, (node, (c.requires.max_value, room)))))))
 
 pub returns-in_default-check_below-2-clause-complete : goal.returns-in_default-check_below-2-clause-complete
 returns-in_default-check_below-2-clause-complete g t c = λ u b k lower.
-    let r = read g t (goal.at.returns-in_default-check_below-2-clause-complete g t c).After-right-right in
+    let r = read g t (goal.at.returns-in_default-check_below-2-clause-complete g t c).After-child-right in
     let p = parts r c.args.red_above u b k in
-    let finds = finds_on r c.check_below.new.visits.nodes.now _ _ _ _ _ _ c.check_below.ensures.nodes r.right_is
-    c.check_below-2.ensures.complete in
+    let finds = finds_on r r.right_is c.check_below-2.ensures.complete in
     sym (ap is_some c.in_default-check_below-2.is)
     ∙ finds p.right p.level p.right_sound (lower_than _ _ _ p.right_lower lower)
 
 pub returns-in_default-check_below-2-clause-steps : goal.returns-in_default-check_below-2-clause-steps
 returns-in_default-check_below-2-clause-steps g t c = λ ns closed k.
-    let r = read g t (goal.at.returns-in_default-check_below-2-clause-steps g t c).After-right-right in
-    spent_both r ns _ _ _ _ _ false closed k (ap is_some c.in-Some-check_below.is) c.check_below.ensures.nodes
+    let r = read g t (goal.at.returns-in_default-check_below-2-clause-steps g t c).After-child-right in
+    spent_both r ns _ false closed k (ap is_some c.in-Some-check_below.is)
     (ap is_some c.in_default-check_below-2.is) c.check_below.ensures.steps c.check_below-2.ensures.steps
 
 pub returns-then-before-behind-clause-complete : goal.returns-then-before-behind-clause-complete
 returns-then-before-behind-clause-complete g t c = λ u b k lower.
-    let r = read g t (goal.at.returns-then-before-behind-clause-complete g t c).After-right-right in
-    let s = c.args.visits.now.nodes.now in
+    let r = read g t (goal.at.returns-then-before-behind-clause-complete g t c).After-child-right in
+    let s = c.args.nodes.now in
     let h = g.N.Nodes.cells s in
     let node = c.in-Some.node in
-    let before = found_on r _ _ _ _ _ _ _ refl r.left_is c.in-Some-check_below.ensures.sound in
-    let behind = found_on r _ _ _ _ _ _ _ c.check_below.ensures.nodes r.right_is
-    c.in-Some-check_below-2.ensures.sound in
+    let before = found_on r r.left_is c.in-Some-check_below.ensures.sound in
+    let behind = found_on r r.right_is c.in-Some-check_below-2.ensures.sound in
     let p = parts r c.args.red_above u b k in
     let same1 = one_height (strict g.met.N.Nodes s) h
     (h node).left c.args.low (Some node) c.args.low (Some node) (h node).red (h node).red before.0 p.left _ p.level
@@ -350,37 +331,34 @@ returns-then-before-behind-clause-complete g t c = λ u b k lower.
 
 pub returns-then-before-behind-clause-steps : goal.returns-then-before-behind-clause-steps
 returns-then-before-behind-clause-steps g t c = λ ns closed k.
-    let r = read g t (goal.at.returns-then-before-behind-clause-steps g t c).After-right-right in
-    more _ _ (spent_both r ns _ _ _ _ _ true closed k (ap is_some c.in-Some-check_below.is) c.check_below.ensures.nodes
+    let r = read g t (goal.at.returns-then-before-behind-clause-steps g t c).After-child-right in
+    more _ _ (spent_both r ns _ true closed k (ap is_some c.in-Some-check_below.is)
     (ap is_some c.in-Some-check_below-2.is) c.check_below.ensures.steps c.check_below-2.ensures.steps)
 
-pub overflow_add-nodes : goal.overflow_add-nodes
-overflow_add-nodes g t c =
-    let r = read g t (goal.at.overflow_add-nodes g t c).After-right-right in
-    let before = found_on r _ _ _ _ _ _ _ refl r.left_is c.in-Some-check_below.ensures.sound in
-    let behind = found_on r _ _ _ _ _ _ _ c.check_below.ensures.nodes r.right_is
-    c.in-Some-check_below-2.ensures.sound in
+pub overflow_add-count : goal.overflow_add-count
+overflow_add-count g t c =
+    let r = read g t (goal.at.overflow_add-count g t c).After-child-right in
+    let before = found_on r r.left_is c.in-Some-check_below.ensures.sound in
+    let behind = found_on r r.right_is c.in-Some-check_below-2.ensures.sound in
     let few = sizes r c.requires.no_overflow.0 _ _ _ _ c.requires.no_overflow.1 c.requires.no_overflow.2 before
     behind in
     fits_less _ (fits_nodes _ _ _ _ _ _ few (split r c.requires.no_overflow.0 c.requires.no_overflow.2)
     c.requires.no_overflow.3)
 
-pub overflow_add-nodes-2 : goal.overflow_add-nodes-2
-overflow_add-nodes-2 g t c =
-    let r = read g t (goal.at.overflow_add-nodes-2 g t c).After-right-right in
-    let before = found_on r _ _ _ _ _ _ _ refl r.left_is c.in-Some-check_below.ensures.sound in
-    let behind = found_on r _ _ _ _ _ _ _ c.check_below.ensures.nodes r.right_is
-    c.in-Some-check_below-2.ensures.sound in
+pub overflow_add-count-2 : goal.overflow_add-count-2
+overflow_add-count-2 g t c =
+    let r = read g t (goal.at.overflow_add-count-2 g t c).After-child-right in
+    let before = found_on r r.left_is c.in-Some-check_below.ensures.sound in
+    let behind = found_on r r.right_is c.in-Some-check_below-2.ensures.sound in
     let few = sizes r c.requires.no_overflow.0 _ _ _ _ c.requires.no_overflow.1 c.requires.no_overflow.2 before
     behind in
     fits_nodes _ _ _ _ _ _ few (split r c.requires.no_overflow.0 c.requires.no_overflow.2) c.requires.no_overflow.3
 
 pub returns-then-red-2-clause-sound : goal.returns-then-red-2-clause-sound
 returns-then-red-2-clause-sound g t c =
-    let r = read g t (goal.at.returns-then-red-2-clause-sound g t c).After-right-right in
-    let before = found_on r _ _ _ _ _ _ _ refl r.left_is c.in-Some-check_below.ensures.sound in
-    let behind = found_on r _ _ _ _ _ _ _ c.check_below.ensures.nodes r.right_is
-    c.in-Some-check_below-2.ensures.sound in
+    let r = read g t (goal.at.returns-then-red-2-clause-sound g t c).After-child-right in
+    let before = found_on r r.left_is c.in-Some-check_below.ensures.sound in
+    let behind = found_on r r.right_is c.in-Some-check_below-2.ensures.sound in
     joined r c.args.red_above _ _ _ _ _ before behind c.if-before-behind.false
     (λ x y. elim c.else-red.branch as (λ _. ⊥) [
       | else-red-via-then-red+else-red_above w ↦ true≢false (sym y ∙ w.if-red_above.false)
@@ -389,10 +367,9 @@ returns-then-red-2-clause-sound g t c =
 
 pub returns-clause-sound : goal.returns-clause-sound
 returns-clause-sound g t c =
-    let r = read g t (goal.at.returns-clause-sound g t c).After-right-right in
-    let before = found_on r _ _ _ _ _ _ _ refl r.left_is c.in-Some-check_below.ensures.sound in
-    let behind = found_on r _ _ _ _ _ _ _ c.check_below.ensures.nodes r.right_is
-    c.in-Some-check_below-2.ensures.sound in
+    let r = read g t (goal.at.returns-clause-sound g t c).After-child-right in
+    let before = found_on r r.left_is c.in-Some-check_below.ensures.sound in
+    let behind = found_on r r.right_is c.in-Some-check_below-2.ensures.sound in
     joined r c.args.red_above _ _ _ _ _ before behind c.if-before-behind.false
     (λ x y. elim c.else-red.branch as (λ _. ⊥) [
       | else-red-via-then-red+else-red_above w ↦ true≢false (sym y ∙ w.if-red_above.false)
@@ -401,12 +378,12 @@ returns-clause-sound g t c =
 
 pub returns-then-red-2-clause-steps : goal.returns-then-red-2-clause-steps
 returns-then-red-2-clause-steps g t c = λ ns closed k.
-    let r = read g t (goal.at.returns-then-red-2-clause-steps g t c).After-right-right in
-    spent_both r ns _ _ _ _ _ true closed k (ap is_some c.in-Some-check_below.is) c.check_below.ensures.nodes
+    let r = read g t (goal.at.returns-then-red-2-clause-steps g t c).After-child-right in
+    spent_both r ns _ true closed k (ap is_some c.in-Some-check_below.is)
     (ap is_some c.in-Some-check_below-2.is) c.check_below.ensures.steps c.check_below-2.ensures.steps
 
 pub returns-clause-steps : goal.returns-clause-steps
 returns-clause-steps g t c = λ ns closed k.
-    let r = read g t (goal.at.returns-clause-steps g t c).After-right-right in
-    spent_both r ns _ _ _ _ _ true closed k (ap is_some c.in-Some-check_below.is) c.check_below.ensures.nodes
+    let r = read g t (goal.at.returns-clause-steps g t c).After-child-right in
+    spent_both r ns _ true closed k (ap is_some c.in-Some-check_below.is)
     (ap is_some c.in-Some-check_below-2.is) c.check_below.ensures.steps c.check_below-2.ensures.steps

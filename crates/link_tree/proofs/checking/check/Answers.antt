@@ -19,8 +19,7 @@ check_below-requires-clause-no_overflow g c =
     let zero = c.new-visits.ensures.steps in
     let closed = only_closed (g.N.Nodes.cells s) good f.0 (g.met.N.Nodes.left_closed s) (g.met.N.Nodes.right_closed s)
     f.2 in
-    let e = c.new-visits.ensures.nodes in
-    (ns, rw e closed, leads_only good f.0 f.2 c.args.root c.requires, rw e (omega arith))
+    (ns, closed, leads_only good f.0 f.2 c.args.root c.requires, omega arith)
 
 pub returns-in_default-clause-count : goal.returns-in_default-clause-count
 returns-in_default-clause-count g c = λ m. (
@@ -28,8 +27,7 @@ returns-in_default-clause-count g c = λ m. (
   λ w.
       let s = c.args.nodes.now in
       let low = low_tree g.met.N.Nodes s w.1 c.requires in
-      let complete = rw c.new-visits.ensures.nodes at c.check_below.ensures.complete in
-      let some = complete w.0 w.1.red_black.black.0
+      let some = c.check_below.ensures.complete w.0 w.1.red_black.black.0
       (sound_whole (strict g.met.N.Nodes s) (g.N.Nodes.cells s) c.args.root w.0 w.1) (omega arith) in
       absurd (false≢true (rw c.in_default.is at some)),
 )
@@ -37,8 +35,7 @@ returns-in_default-clause-count g c = λ m. (
 pub returns-in_default-clause-steps : goal.returns-in_default-clause-steps
 returns-in_default-clause-steps g c = λ ns closed k.
     let s = c.args.nodes.now in
-    let first = rw c.new-visits.ensures.nodes at c.check_below.ensures.steps in
-    let spent = rw c.in_default.is at (first ns closed k) in
+    let spent = rw c.in_default.is at (c.check_below.ensures.steps ns closed k) in
     let counts = count_all (g.N.Nodes.order s) ns in
     let zero = c.new-visits.ensures.steps in
     omega arith
@@ -46,7 +43,7 @@ returns-in_default-clause-steps g c = λ ns closed k.
 pub returns-clause-count : goal.returns-clause-count
 returns-clause-count g c = λ m.
     let s = c.args.nodes.now in
-    let sound = rw c.new-visits.ensures.nodes at c.in-Some.ensures.sound in
+    let sound = c.in-Some.ensures.sound in
     let whole = whole_sound (strict g.met.N.Nodes s) (g.N.Nodes.cells s) c.args.root sound.0 c.in-Some.part.blacks
     sound.1 in (
       λ e. (sound.0, whole, sound.2 ∙ some_same c.in-Some.part.nodes m e),
@@ -58,8 +55,7 @@ returns-clause-count g c = λ m.
 pub returns-clause-steps : goal.returns-clause-steps
 returns-clause-steps g c = λ ns closed k.
     let s = c.args.nodes.now in
-    let first = rw c.new-visits.ensures.nodes at c.check_below.ensures.steps in
-    let spent = rw c.in-Some.is at (first ns closed k) in
+    let spent = rw c.in-Some.is at (c.check_below.ensures.steps ns closed k) in
     let counts = count_all (g.N.Nodes.order s) ns in
     let zero = c.new-visits.ensures.steps in
     omega arith

@@ -1,4 +1,4 @@
-use Rattle.std.proofs.Common.{◌≡◌, ℕ, ◌+◌, Bool, true, false, Option, Some, ◌∙◌, arith, refl}
+use Rattle.std.proofs.Common.{◌≡◌, ℕ, ◌+◌, Bool, true, false, Option, Some, arith, refl}
 use Rattle.link_tree.specs.Tree.{Tree, IsSearchTree}
 use Rattle.link_tree.specs.Sides.{child_of}
 use Rattle.link_tree.proofs.trees.Heights.{bounds_height}
@@ -29,7 +29,6 @@ further g s probe root start b n link at at' folded folded' steps steps' seeks e
 
 pub loop-link-init : goal.loop-link-init
 loop-link-init g c = record {
-  same = cc;
   good = c.requires.root;
   room = omega (arith, c.new-visits.ensures.steps);
   seeks = λ t k. seek_start c.args.root _ _ k c.new-visits.ensures.position c.new-visits.ensures.steps;
@@ -40,7 +39,7 @@ loop-link-smaller-then-before g c =
     let t = c.requires.tree in
     let goes = c.before_probe-before.ensures.progress_on_step
     ((c.loop-link.invariant.seeks t.0 t.1).away _ c.in-Some.is) in
-    let stays = c.right-link.ensures.unchanged c.fold_node-folded.ensures.position in
+    let stays = c.child-link.ensures.unchanged c.before_probe-before.ensures.position in
     omega arith
 
 pub loop-link-smaller : goal.loop-link-smaller
@@ -48,42 +47,37 @@ loop-link-smaller g c =
     let t = c.requires.tree in
     let goes = c.before_probe-before.ensures.progress_on_step
     ((c.loop-link.invariant.seeks t.0 t.1).away _ c.in-Some.is) in
-    let stays = c.left-link.ensures.unchanged c.fold_node-folded.ensures.position in
+    let stays = c.child-link-else-before.ensures.unchanged c.before_probe-before.ensures.position in
     omega arith
 
 pub loop-link-preserved-then-before : goal.loop-link-preserved-then-before
 loop-link-preserved-then-before g c =
     let s = c.args.nodes.now in
     let t = c.requires.tree in
-    let n = c.in-Some.node in
-    let here : g.N.Nodes.is_node s n ≡ true = rw c.in-Some.is at c.loop-link.invariant.good in
-    let is : c.right-link.result ≡ (g.N.Nodes.cells s n).right = cc in
-    let seeks = further g s c.args.probe.now c.args.root c.args.start true n c.right-link.result _ _ _
-    c.fold_node-folded.result _ c.right-link.new.self.steps (rw c.in-Some.is at c.loop-link.invariant.seeks) (cc) (cc)
+    let seeks = further g s c.args.probe.now c.args.root c.args.start true c.in-Some.node c.child-link.result _ _ _
+    c.fold_node-folded.result _ c.child-link.new.self.steps (rw c.in-Some.is at c.loop-link.invariant.seeks) (cc) (cc)
     (λ away.
     let goes = c.before_probe-before.ensures.progress_on_step away in
-    let stays = c.right-link.ensures.unchanged c.fold_node-folded.ensures.position in
-    omega arith) c.right-link.ensures.position is in
+    let stays = c.child-link.ensures.unchanged c.before_probe-before.ensures.position in
+    omega arith) c.child-link.ensures.position c.child-link.ensures.value in
     let low = low_tree g.met.N.Nodes s t.1 c.requires.root in
     let taken = (seeks t.0 t.1).taken in
-    record { same = cc; good = rw is (g.met.N.Nodes.right_closed s n here); room = omega arith; seeks = seeks }
+    record { good = c.child-link.ensures.link_target; room = omega arith; seeks = seeks }
 
 pub loop-link-preserved : goal.loop-link-preserved
 loop-link-preserved g c =
     let s = c.args.nodes.now in
     let t = c.requires.tree in
-    let n = c.in-Some.node in
-    let here : g.N.Nodes.is_node s n ≡ true = rw c.in-Some.is at c.loop-link.invariant.good in
-    let is : c.left-link.result ≡ (g.N.Nodes.cells s n).left = cc in
-    let seeks = further g s c.args.probe.now c.args.root c.args.start false n c.left-link.result _ _ _
-    c.fold_node-folded.result _ c.left-link.new.self.steps (rw c.in-Some.is at c.loop-link.invariant.seeks)
-    (cc) (cc) (λ away.
+    let seeks = further g s c.args.probe.now c.args.root c.args.start false c.in-Some.node
+    c.child-link-else-before.result _ _ _ c.fold_node-folded.result _ c.child-link-else-before.new.self.steps
+    (rw c.in-Some.is at c.loop-link.invariant.seeks) (cc) (cc)
+    (λ away.
     let goes = c.before_probe-before.ensures.progress_on_step away in
-    let stays = c.left-link.ensures.unchanged c.fold_node-folded.ensures.position in
-    omega arith) c.left-link.ensures.position is in
+    let stays = c.child-link-else-before.ensures.unchanged c.before_probe-before.ensures.position in
+    omega arith) c.child-link-else-before.ensures.position c.child-link-else-before.ensures.value in
     let low = low_tree g.met.N.Nodes s t.1 c.requires.root in
     let taken = (seeks t.0 t.1).taken in
-    record { same = cc; good = rw is (g.met.N.Nodes.left_closed s n here); room = omega arith; seeks = seeks }
+    record { good = c.child-link-else-before.ensures.link_target; room = omega arith; seeks = seeks }
 
 pub returns-clause-mark : goal.returns-clause-mark
 returns-clause-mark g c = λ t k. (seek_end _ _ _ _ (cc) (c.loop-link.invariant.seeks t k)).0
@@ -92,7 +86,7 @@ pub returns-clause-steps : goal.returns-clause-steps
 returns-clause-steps g c = λ t k.
     let taken = (c.loop-link.invariant.seeks t k).taken in
     let low = bounds_height t k.red_black in
-    omega (arith, c.steps.ensures)
+    omega arith
 
 pub returns-clause-steps_exact : goal.returns-clause-steps_exact
-returns-clause-steps_exact g c = λ t k. c.steps.ensures ∙ (seek_end _ _ _ _ (cc) (c.loop-link.invariant.seeks t k)).1
+returns-clause-steps_exact g c = λ t k. (seek_end _ _ _ _ (cc) (c.loop-link.invariant.seeks t k)).1

@@ -6,7 +6,6 @@ use Rattle.link_tree.proofs.descending.descend.Given as goal
 
 abbrev pub invariant-loop-link : goal.invariant-loop-link
 invariant-loop-link g l = record {
-  same : l.visits.nodes.now ≡ l.nodes;
   good : leads (g.N.Nodes.is_node l.nodes) l.link ≡ true;
   room : l.visits.steps ≤ 80;
   seeks : (t : Tree) → IsSearchTree (g.N.Nodes.order l.nodes) (g.N.Nodes.cells l.nodes) l.fn.root t

@@ -1,11 +1,10 @@
-use Rattle.std.proofs.Common.{◌≡◌, ℕ, Bool, true, not, ◌∷◌, Option, Some, arith, refl, sym, ap, ◌∙◌, subst, rules}
+use Rattle.std.proofs.Common.{◌≡◌, ℕ, true, not, ◌∷◌, Option, Some, arith, refl, sym, ap, ◌∙◌, subst}
 use Rattle.std.specs.Prelude.{IfSome, IsTrue}
-use Rattle.link_tree.specs.Tree.{Cell, Tree, IsTree, IsSearchTree, nodes_of, is_sorted}
+use Rattle.link_tree.specs.Tree.{Tree, IsSearchTree, nodes_of}
 use Rattle.link_tree.specs.Nodes.{is_ordered_with, insert_in_order, leads}
-use Rattle.link_tree.specs.Sides.{child_of, side_of, with_child}
+use Rattle.link_tree.specs.Sides.{side_of, with_child}
 use Rattle.link_tree.specs.declared.cursor.Side.{Side}
-use Rattle.link_tree.specs.Turning.{BecomesTree, blackened}
-use Rattle.link_tree.specs.Growing.{CanInsert, after_insert}
+use Rattle.link_tree.specs.Growing.{CanInsert}
 use Rattle.link_tree.specs.Ways.{insert_point_of}
 use Rattle.link_tree.proofs.trees.Linked.{IsChanged, one_tree, root_in}
 use Rattle.link_tree.proofs.trees.Heights.{height_bits}
@@ -13,6 +12,7 @@ use Rattle.link_tree.proofs.trees.NodeLaws.{low_tree, node_of, strict}
 use Rattle.link_tree.proofs.inserting.Insertion.{frame_beside, grow_step, GrowsBelow, grows_below, inserted, laid}
 use Rattle.link_tree.proofs.inserting.EntryPoint.{IsBegun, begun_whole, entered, grows_begun, steady}
 use Rattle.link_tree.proofs.insertion.insert_at.Goals as goal
+use Rattle.link_tree.proofs.insertion.insert_at.Goals.{After-set_child, After-paint}
 use Rattle.link_tree.proofs.insertion.insert_at.Given.{Over}
 
 -- the conditions of the call
@@ -59,13 +59,12 @@ module _ (g : Over) (s : g.row.N.Denot) (root entry : Option ℕ) (x : ℕ) (ask
 pub toward-way-requires-clause-position : goal.toward-way-requires-clause-position
 toward-way-requires-clause-position g c =
     let t = c.requires.tree in
-    rw c.new-visits.ensures.nodes
-    (entry_node g c.args.nodes.now c.args.root c.args.entry c.args.node t t.0 t.1 _ c.in-Some.is c.requires.root)
+    entry_node g c.args.nodes.now c.args.root c.args.entry c.args.node t t.0 t.1 _ c.in-Some.is c.requires.root
 
 pub set_child-requires-clause-node : goal.set_child-requires-clause-node
 set_child-requires-clause-node g c =
     let t = c.requires.tree in
-    rw (c.insert_behind-child.ensures.keeper.nodes, c.toward-way.ensures.nodes, c.new-visits.ensures.nodes)
+    rw c.insert_behind-child.ensures.keeper.nodes
     (entry_node g c.args.nodes.now c.args.root c.args.entry c.args.node t t.0 t.1 _ c.in-Some.is c.requires.root)
 
 pub insert_behind-child-requires-clause-tree : goal.insert_behind-child-requires-clause-tree
@@ -79,11 +78,8 @@ insert_behind-child-requires-clause-tree g c =
     let f = further g s c.args.root c.args.entry c.args.node t t.0 t.1 _ c.in-Some.is in
     let few = way.steps_upper in
     let lower = b.begins.lower in
-    let lower' = f.lower in (
-      f.tree,
-      rw (way.nodes, way.link, c.new-visits.ensures.nodes) f.grows,
-      omega arith,
-    )
+    let lower' = f.lower in
+    (f.tree, rw way.link f.grows, omega arith)
 
 pub set_child-requires-clause-no_overflow : goal.set_child-requires-clause-no_overflow
 set_child-requires-clause-no_overflow g c =
@@ -97,66 +93,42 @@ set_child-requires-clause-no_overflow g c =
     let few = way.steps_upper in
     let lower = b.begins.lower in
     let lower' = f.lower in
-    let steps = rw (way.nodes, way.link, c.new-visits.ensures.nodes) at c.insert_behind-child.ensures.steps in
+    let steps = rw way.link at c.insert_behind-child.ensures.steps in
     omega (arith, steps f.tree f.grows)
 
 -- the result of an insertion below a node of the tree
-entered_at : (g : Over) (s s1 s2 : g.row.N.Denot) (root entry : Option ℕ) (x p child : ℕ) → Asked g s root entry x
-    → entry ≡ Some p → ((v : Tree)
-    → CanInsert (g.N.Nodes.order s) (g.N.Nodes.cells s)
-    (child_of (side_of (g.N.Nodes.order s x p)) (g.N.Nodes.cells s p)) x v
-    → BecomesTree (g.N.Nodes.cells s) (g.N.Nodes.cells s1) (x ∷ nodes_of v) (Some child)
-    (after_insert (g.N.Nodes.order s) x v))
-    → g.N.Nodes.cells s2 ≡ with_child (side_of (g.N.Nodes.order s x p)) (g.N.Nodes.cells s1) p (Some child)
-    → (lt' : ℕ → ℕ → Bool) (h' : ℕ → Cell) → h' ≡ g.N.Nodes.cells s2 → lt' ≡ g.N.Nodes.order s → (u : Tree)
-    → IsSearchTree (g.N.Nodes.order s) (g.N.Nodes.cells s) root u
-    → IsChanged lt' (g.N.Nodes.cells s) h' root (x ∷ nodes_of u) (insert_in_order (g.N.Nodes.order s) x (nodes_of u))
-entered_at g s s1 s2 root entry x p child asked is grow set lt' h' eh el u k =
+entered_at : (g : Over) (c : After-set_child g) (u : Tree)
+    → IsSearchTree (g.N.Nodes.order c.args.nodes.now) (g.N.Nodes.cells c.args.nodes.now) c.args.root u
+    → IsChanged (g.N.Nodes.order c.set_child.new.nodes) (g.N.Nodes.cells c.args.nodes.now)
+    (g.N.Nodes.cells c.set_child.new.nodes) c.args.root (c.args.node ∷ nodes_of u)
+    (insert_in_order (g.N.Nodes.order c.args.nodes.now) c.args.node (nodes_of u))
+entered_at g c u k =
+    let s = c.args.nodes.now in
+    let x = c.args.node in
+    let p = c.in-Some.start in
     let h = g.N.Nodes.cells s in
-    let h2 = g.N.Nodes.cells s2 in
+    let h1 = g.N.Nodes.cells c.insert_behind-child.new.nodes in
+    let h2 = g.N.Nodes.cells c.set_child.new.nodes in
+    let child = c.insert_behind-child.result in
     let side = side_of (g.N.Nodes.order s x p) in
     let all = strict g.met.N.Nodes s in
-    let b = begins g s root entry x asked u k p is in
-    let place = (grows g s root entry x asked u k).placed in
-    let new = grow_step all side h (g.N.Nodes.cells s1) h2 h2 x p child p b.begins.below refl
+    let way = c.toward-way.ensures in
+    let grow = rw way.link at c.insert_behind-child.ensures.growth in
+    let set = c.set_child.ensures.cells ∙ ap (λ (o : Side). with_child o h1 p (Some child)) way.side in
+    let b = begins g s c.args.root c.args.entry x c.requires.tree u k p c.in-Some.is in
+    let place = (grows g s c.args.root c.args.entry x c.requires.tree u k).placed in
+    let new = grow_step all side h h1 h2 h2 x p child p b.begins.below refl
     (grows_begun all h x u p place b) grow set (steady all h x side h2 p (λ v w. b.next v w.tree)) in
-    entered all h x lt' h2 h' root p u p k place b new eh el
-
--- the result of this call, where it begins at a node
-from_entry : (g : Over) (s s0 s1 s2 s3 : g.row.N.Denot) (root entry : Option ℕ) (x p child : ℕ) (side : Side)
-    (link : Option ℕ) → Asked g s root entry x → entry ≡ Some p → s0 ≡ s → s1 ≡ s0
-    → side ≡ side_of (g.N.Nodes.order s0 x p)
-    → link ≡ child_of (side_of (g.N.Nodes.order s0 x p)) (g.N.Nodes.cells s0 p)
-    → ((v : Tree) → CanInsert (g.N.Nodes.order s1) (g.N.Nodes.cells s1) link x v
-    → BecomesTree (g.N.Nodes.cells s1) (g.N.Nodes.cells s2) (x ∷ nodes_of v) (Some child)
-    (after_insert (g.N.Nodes.order s1) x v))
-    → g.N.Nodes.cells s3 ≡ with_child side (g.N.Nodes.cells s2) p (Some child)
-    → g.N.Nodes.order s2 ≡ g.N.Nodes.order s1 → g.N.Nodes.order s3 ≡ g.N.Nodes.order s2
-    → (lt' : ℕ → ℕ → Bool) (h' : ℕ → Cell) → h' ≡ g.N.Nodes.cells s3 → lt' ≡ g.N.Nodes.order s3 → (u : Tree)
-    → IsSearchTree (g.N.Nodes.order s) (g.N.Nodes.cells s) root u
-    → IsChanged lt' (g.N.Nodes.cells s) h' root (x ∷ nodes_of u) (insert_in_order (g.N.Nodes.order s) x (nodes_of u))
-from_entry g s s0 s1 s2 s3 root entry x p child side link asked is e0 e1 es ek grow set o2 o3 lt' h' eh el u k =
-    let grow' = rw (e1, ek, e0) at grow in
-    let es' = rw e0 at es in
-    let set' = set ∙ ap (λ (o : Side). with_child o (g.N.Nodes.cells s2) p (Some child)) es' in
-    let o1 = ap (λ (z : g.row.N.Denot). g.N.Nodes.order z) (e1 ∙ e0) in
-    entered_at g s s2 s3 root entry x p child asked is grow' set' lt' h' eh (el ∙ o3 ∙ o2 ∙ o1) u k
+    rw (c.set_child.ensures.keeper.order ∙ c.insert_behind-child.ensures.keeper.order)
+    (entered all h x h2 c.args.root p u p k place b new)
 
 pub returns-in-Some-clause-tree : goal.returns-in-Some-clause-tree
 returns-in-Some-clause-tree g c = λ u k.
-    let way = c.toward-way.ensures in
-    (from_entry g c.args.nodes.now _ _ _ _ c.args.root c.args.entry c.args.node c.in-Some.start
-    c.insert_behind-child.result _ _ c.requires.tree c.in-Some.is c.new-visits.ensures.nodes way.nodes way.side way.link
-    c.insert_behind-child.ensures.growth c.set_child.ensures.cells c.insert_behind-child.ensures.keeper.order
-    c.set_child.ensures.keeper.order _ _ (search rules) (search rules) u k).tree
+    (entered_at g (goal.at.returns-in-Some-clause-tree g c).After-set_child u k).tree
 
 pub returns-in-Some-clause-frame : goal.returns-in-Some-clause-frame
 returns-in-Some-clause-frame g c = λ u k.
-    let way = c.toward-way.ensures in
-    frame_beside (from_entry g c.args.nodes.now _ _ _ _ c.args.root c.args.entry c.args.node c.in-Some.start
-    c.insert_behind-child.result _ _ c.requires.tree c.in-Some.is c.new-visits.ensures.nodes way.nodes way.side way.link
-    c.insert_behind-child.ensures.growth c.set_child.ensures.cells c.insert_behind-child.ensures.keeper.order
-    c.set_child.ensures.keeper.order _ _ (search rules) refl u k)
+    frame_beside (entered_at g (goal.at.returns-in-Some-clause-frame g c).After-set_child u k)
 
 pub returns-in-Some-clause-steps : goal.returns-in-Some-clause-steps
 returns-in-Some-clause-steps g c = λ u k.
@@ -164,18 +136,17 @@ returns-in-Some-clause-steps g c = λ u k.
     let way = c.toward-way.ensures in
     let b = begins g s c.args.root c.args.entry c.args.node c.requires.tree u k _ c.in-Some.is in
     let f = further g s c.args.root c.args.entry c.args.node c.requires.tree u k _ c.in-Some.is in
-    let steps = rw (way.nodes, way.link, c.new-visits.ensures.nodes) at c.insert_behind-child.ensures.steps in
+    let steps = rw way.link at c.insert_behind-child.ensures.steps in
     let few = way.steps_upper in
     let last = c.set_child.ensures.steps_upper in
     let lower = b.begins.lower in
     let lower' = f.lower in
-    omega (arith, c.steps.ensures, steps f.tree f.grows, c.new-visits.ensures.steps, height_bits u k.red_black)
+    omega (arith, steps f.tree f.grows, c.new-visits.ensures.steps, height_bits u k.red_black)
 
 pub returns-in_default-root-clause-tree : goal.returns-in_default-root-clause-tree
 returns-in_default-root-clause-tree g c = λ u k.
-    let layout = rw c.new-visits.ensures.nodes at c.make_leaf.ensures.layout in
-    (laid _ (g.N.Nodes.cells c.args.nodes.now) (g.N.Nodes.cells c.make_leaf.new.visits.nodes.now) _ c.args.root
-    c.args.node u c.in_default-root.is k layout (search rules)).tree
+    (laid _ (g.N.Nodes.cells c.args.nodes.now) (g.N.Nodes.cells c.make_leaf.new.nodes) c.args.root c.args.node u
+    c.in_default-root.is k c.make_leaf.ensures.layout).tree
 
 pub insert_below-risen-requires-clause-tree : goal.insert_below-risen-requires-clause-tree
 insert_below-risen-requires-clause-tree g c =
@@ -184,7 +155,7 @@ insert_below-risen-requires-clause-tree g c =
     let low = low_tree g.met.N.Nodes s t.1 c.requires.root in
     let zero = c.new-visits.ensures.steps in
     let there = grows g s c.args.root c.args.entry c.args.node t t.0 t.1 in
-    (t.0, rw (c.new-visits.ensures.nodes, sym c.in-Some-root.is) there, omega arith)
+    (t.0, rw (sym c.in-Some-root.is) there, omega arith)
 
 pub paint-requires-clause-no_overflow : goal.paint-requires-clause-no_overflow
 paint-requires-clause-no_overflow g c =
@@ -192,49 +163,34 @@ paint-requires-clause-no_overflow g c =
     let s = c.args.nodes.now in
     let low = low_tree g.met.N.Nodes s t.1 c.requires.root in
     let zero = c.new-visits.ensures.steps in
-    let steps = rw (c.new-visits.ensures.nodes, sym c.in-Some-root.is) at c.insert_below-risen.ensures.steps in
+    let steps = rw (sym c.in-Some-root.is) at c.insert_below-risen.ensures.steps in
     omega (arith, steps t.0 (grows g s c.args.root c.args.entry c.args.node t t.0 t.1))
 
 -- the result of an insertion below the root
-inserted_at : (g : Over) (s s' s'' : g.row.N.Denot) (root entry : Option ℕ) (x top : ℕ) → Asked g s root entry x
-    → ((v : Tree) → CanInsert (g.N.Nodes.order s) (g.N.Nodes.cells s) root x v
-    → BecomesTree (g.N.Nodes.cells s) (g.N.Nodes.cells s') (x ∷ nodes_of v) (Some top)
-    (after_insert (g.N.Nodes.order s) x v))
-    → g.N.Nodes.order s' ≡ g.N.Nodes.order s
-    → ((v : Tree) → IsTree (g.N.Nodes.cells s') (Some top) v → is_sorted (g.N.Nodes.order s') (nodes_of v) ≡ true
-    → BecomesTree (g.N.Nodes.cells s') (g.N.Nodes.cells s'') (nodes_of v) (Some top) (blackened v))
-    → (lt' : ℕ → ℕ → Bool) (h' : ℕ → Cell) → h' ≡ g.N.Nodes.cells s'' → lt' ≡ g.N.Nodes.order s → (u : Tree)
-    → IsSearchTree (g.N.Nodes.order s) (g.N.Nodes.cells s) root u
-    → IsChanged lt' (g.N.Nodes.cells s) h' (Some top) (x ∷ nodes_of u)
-    (insert_in_order (g.N.Nodes.order s) x (nodes_of u))
-inserted_at g s s' s'' root entry x top asked grow eo blacken lt' h' eh el u k =
-    let w = grows g s root entry x asked u k in
-    let black = rw eo at blacken in
-    inserted (strict g.met.N.Nodes s) lt' (g.N.Nodes.cells s) (g.N.Nodes.cells s') (g.N.Nodes.cells s'') h' root x top u
-    k w.placed (grow u w) black eh el
+inserted_at : (g : Over) (c : After-paint g) (u : Tree)
+    → IsSearchTree (g.N.Nodes.order c.args.nodes.now) (g.N.Nodes.cells c.args.nodes.now) c.args.root u
+    → IsChanged (g.N.Nodes.order c.paint.new.nodes) (g.N.Nodes.cells c.args.nodes.now)
+    (g.N.Nodes.cells c.paint.new.nodes) (Some c.insert_below-risen.result) (c.args.node ∷ nodes_of u)
+    (insert_in_order (g.N.Nodes.order c.args.nodes.now) c.args.node (nodes_of u))
+inserted_at g c u k =
+    let s = c.args.nodes.now in
+    let w = grows g s c.args.root c.args.entry c.args.node c.requires.tree u k in
+    let eo = c.insert_below-risen.ensures.keeper.order in
+    let grow = rw (sym c.in-Some-root.is) at c.insert_below-risen.ensures.growth in
+    let black = rw eo at c.paint.ensures.colour in
+    rw (c.paint.ensures.keeper.order ∙ eo) (inserted (strict g.met.N.Nodes s) (g.N.Nodes.cells s)
+    (g.N.Nodes.cells c.insert_below-risen.new.nodes) (g.N.Nodes.cells c.paint.new.nodes) c.args.root c.args.node
+    c.insert_below-risen.result u k w.placed (grow u w) black)
 
 pub returns-clause-tree : goal.returns-clause-tree
-returns-clause-tree g c = λ u k.
-    let after_insert = rw (c.new-visits.ensures.nodes, sym c.in-Some-root.is) at c.insert_below-risen.ensures.growth in
-    (inserted_at g c.args.nodes.now c.insert_below-risen.new.visits.nodes.now c.paint.new.visits.nodes.now c.args.root
-    c.args.entry c.args.node c.insert_below-risen.result c.requires.tree after_insert (cc) c.paint.ensures.colour _ _
-    (search rules) (search rules) u k).tree
+returns-clause-tree g c = λ u k. (inserted_at g (goal.at.returns-clause-tree g c).After-paint u k).tree
 
 pub returns-clause-frame : goal.returns-clause-frame
-returns-clause-frame g c = λ u k.
-    let after_insert = rw (c.new-visits.ensures.nodes, sym c.in-Some-root.is) at c.insert_below-risen.ensures.growth in
-    frame_beside (inserted_at g c.args.nodes.now c.insert_below-risen.new.visits.nodes.now c.paint.new.visits.nodes.now
-    c.args.root c.args.entry c.args.node c.insert_below-risen.result c.requires.tree after_insert (cc)
-    c.paint.ensures.colour _ _
-    (search rules) refl u k)
+returns-clause-frame g c = λ u k. frame_beside (inserted_at g (goal.at.returns-clause-frame g c).After-paint u k)
 
 pub returns-clause-steps : goal.returns-clause-steps
 returns-clause-steps g c = λ u k.
     let s = c.args.nodes.now in
-    let steps = rw (c.new-visits.ensures.nodes, sym c.in-Some-root.is) at c.insert_below-risen.ensures.steps in
-    omega (
-      arith,
-      c.steps-2.ensures,
-      steps u (grows g s c.args.root c.args.entry c.args.node c.requires.tree u k),
-      height_bits u k.red_black,
-    )
+    let steps = rw (sym c.in-Some-root.is) at c.insert_below-risen.ensures.steps in
+    let few = steps u (grows g s c.args.root c.args.entry c.args.node c.requires.tree u k) in
+    omega (arith, few, height_bits u k.red_black)

@@ -1,28 +1,36 @@
-use Rattle.std.proofs.Common.{◌≡◌, true, false, sym, ap, ◌∙◌}
-use Rattle.link_tree.specs.Nodes.{with_red}
-use Rattle.link_tree.proofs.removing.RemovalSteps.{mend_black}
+use Rattle.std.proofs.Common.{Some, sym, ap, ◌∙◌}
+use Rattle.link_tree.specs.Sides.{with_child}
+use Rattle.link_tree.specs.declared.cursor.Side.{Side}
+use Rattle.link_tree.proofs.inserting.Insertion.{nodes_of-rebalanced}
+use Rattle.link_tree.proofs.removing.RemovalSteps.{mend_black, mend_red_at}
 use Rattle.link_tree.proofs.trees.NodeLaws.{strict}
 use Rattle.link_tree.proofs.removing.mend.Goals as goal
 
+pub returns-then-red-clause-repair : goal.returns-then-red-clause-repair
+returns-then-red-clause-repair g c = λ t w o.
+    let s = c.args.nodes.now in
+    let side = c.args.side in
+    let heavy = c.in-Some.heavy in
+    let low = c.fix_double_red-low.result in
+    let h4 = g.N.Nodes.cells c.fix_double_red-low.new.nodes in
+    let eo = c.set_red.ensures.keeper.order ∙ c.rotate.ensures.keeper.order in
+    let redden = rw eo at c.paint.ensures.colour in
+    let balance = rw (c.paint.ensures.keeper.order ∙ eo) at c.fix_double_red-low.ensures.balanced in
+    mend_red_at (strict g.met.N.Nodes s) side (g.N.Nodes.cells s)
+    (g.N.Nodes.cells c.rotate.new.nodes) (g.N.Nodes.cells c.set_red.new.nodes) (g.N.Nodes.cells c.paint.new.nodes) h4
+    (g.N.Nodes.cells c.set_child.new.nodes) c.args.top heavy low c.rotate.result c.child-inner.result t w o
+    (sym c.child.ensures.value ∙ c.in-Some.is) (sym c.red.ensures.value ∙ c.if-red.true) c.rotate.ensures.rotation
+    c.set_red.ensures.cells c.child-inner.ensures.value redden balance (nodes_of-rebalanced side)
+    (c.set_child.ensures.cells ∙ ap (λ (x : Side). with_child x h4 heavy (Some low)) c.other.ensures)
+
 pub returns-clause-repair : goal.returns-clause-repair
 returns-clause-repair g c = λ t w o.
-    let s = c.args.visits.now.nodes.now in
-    let h = g.N.Nodes.cells s in
-    let e1 : c.child.new.self.nodes.now ≡ s = c.child.ensures.nodes in
-    let e2 : c.red-red.new.self.nodes.now ≡ s = c.red-red.ensures.nodes ∙ e1 in
-    let e3 : c.red.new.self.nodes.now ≡ s = c.red.ensures.nodes ∙ e2 in
-    let eo : g.N.Nodes.order c.set_red-2.new.self.nodes.now ≡ g.N.Nodes.order s = c.set_red-2.ensures.keeper.order
-    ∙ (c.set_red.ensures.keeper.order ∙ ap (λ (x : g.row.N.Denot). g.N.Nodes.order x) e3) in
-    let red : c.red-red.result ≡ (h c.args.top).red =
-    c.red-red.ensures.value ∙ ap (λ (x : g.row.N.Denot). (g.N.Nodes.cells x c.args.top).red) e1 in
-    let black : (h c.in-Some.heavy).red ≡ false =
-    ap (λ (x : g.row.N.Denot). (g.N.Nodes.cells x c.in-Some.heavy).red) (sym e2) ∙
-    (sym c.red.ensures.value ∙ c.if-red.false) in
-    let set : g.N.Nodes.cells c.set_red.new.self.nodes.now ≡ with_red h c.in-Some.heavy true = c.set_red.ensures.cells
-    ∙ ap (λ (x : g.row.N.Denot). with_red (g.N.Nodes.cells x) c.in-Some.heavy true) e3 in
+    let s = c.args.nodes.now in
+    let eo = c.set_red-3.ensures.keeper.order ∙ c.set_red-2.ensures.keeper.order in
     let balance = rw eo at c.fix_double_red-root.ensures.balanced in
-    rw red (mend_black (strict g.met.N.Nodes s) c.args.side h
-    (g.N.Nodes.cells c.set_red.new.self.nodes.now) (g.N.Nodes.cells c.set_red-2.new.self.nodes.now)
-    (g.N.Nodes.cells c.fix_double_red-root.new.visits.nodes.now)
+    rw c.red-red.ensures.value (mend_black (strict g.met.N.Nodes s) c.args.side (g.N.Nodes.cells s)
+    (g.N.Nodes.cells c.set_red-2.new.nodes) (g.N.Nodes.cells c.set_red-3.new.nodes)
+    (g.N.Nodes.cells c.fix_double_red-root.new.nodes)
     c.args.top c.in-Some.heavy c.fix_double_red-root.result t w o (sym c.child.ensures.value ∙ c.in-Some.is)
-    black set c.set_red-2.ensures.cells balance)
+    (sym c.red.ensures.value ∙ c.if-red.false) c.set_red-2.ensures.cells c.set_red-3.ensures.cells
+    balance)

@@ -4,7 +4,7 @@ use Rattle.link_tree.proofs.rotation.paint.Goals as goal
 
 pub returns-in-Some-clause-colour : goal.returns-in-Some-clause-colour
 returns-in-Some-clause-colour g c = λ t w o.
-    let s = c.args.visits.now.nodes.now in
+    let s = c.args.nodes.now in
     rw c.in-Some.is
-    (paint_turns (strict g.met.N.Nodes s) (g.N.Nodes.cells s) (g.N.Nodes.cells c.set_red.new.self.nodes.now)
+    (paint_turns (strict g.met.N.Nodes s) (g.N.Nodes.cells s) (g.N.Nodes.cells c.set_red.new.nodes)
     c.in-Some.node c.args.red t (rw c.in-Some.is at w) o c.set_red.ensures.cells)

@@ -20,27 +20,18 @@ walk_below-requires-clause-tree g c =
     let s = c.args.nodes.now in
     let t = c.requires.tree in
     let low = low_tree g.met.N.Nodes s t.1 c.requires.root in
-    let zero = c.new-visits.ensures.steps in (
-      t.0,
-      rw c.new-visits.ensures.nodes (ahead g s c.args.root c.new-visits.result.at t.0 t.1 c.requires.root
-          c.new-visits.ensures.position),
-      omega arith,
-    )
+    let zero = c.new-visits.ensures.steps in
+    (t.0, ahead g s c.args.root _ t.0 t.1 c.requires.root c.new-visits.ensures.position, omega arith)
 
 pub returns : goal.returns
 returns g c = record {
   walk = λ u k.
-      let s = c.args.nodes.now in
-      let walked = rw c.new-visits.ensures.nodes at c.walk_below.ensures.walk in
-      walked u (ahead g s c.args.root c.new-visits.result.at u k c.requires.root c.new-visits.ensures.position);
+      c.walk_below.ensures.walk u
+      (ahead g c.args.nodes.now c.args.root _ u k c.requires.root c.new-visits.ensures.position);
   callable = c.walk_below.ensures.callable;
   steps = λ u k.
-      let s = c.args.nodes.now in
       let zero = c.new-visits.ensures.steps in
-      let stepped = rw c.new-visits.ensures.nodes at c.walk_below.ensures.steps in
-      let spent = stepped u (ahead g s c.args.root c.new-visits.result.at u k c.requires.root
-      c.new-visits.ensures.position)
-      in
-      let told = c.steps.ensures in
+      let spent = c.walk_below.ensures.steps u
+      (ahead g c.args.nodes.now c.args.root _ u k c.requires.root c.new-visits.ensures.position) in
       omega arith;
 }

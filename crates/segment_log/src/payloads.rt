@@ -23,8 +23,7 @@ pub fn edit_head(at: u64, len: u64) -> [u8; 16]
 pub fn push_edit(payload: &mut Vec<u8>, at: usize, bytes: &[u8]) -> Result<(), AllocError>
     ensures { OnOk result (payload.new.items ≡ payload.old.items ++ edit_text at bytes.now) }
 {
-    payload.extend_from_slice(&number_bytes(at as u64))?;
-    payload.extend_from_slice(&number_bytes(bytes.len() as u64))?;
+    payload.extend_from_slice(&edit_head(at as u64, bytes.len() as u64))?;
     payload.extend_from_slice(bytes)
 }
 
@@ -38,12 +37,9 @@ pub fn begin_payload(
 ) -> Result<Vec<u8>, AllocError>
     ensures { IfOk result (λ payload. payload.items ≡ number_bytes len ++ tag_text base after) }
 {
-    let mut tag = Vec::new(alloc);
-    tag.extend_from_slice(&number_bytes(base))?;
-    tag.extend_from_slice(&number_bytes(after))?;
     let mut payload = Vec::new(alloc);
     payload.extend_from_slice(&number_bytes(len as u64))?;
-    push_edit(&mut payload, usize::MAX, &tag)?;
+    push_edit(&mut payload, usize::MAX, &edit_head(base, after))?;
     Ok(payload)
 }
 

@@ -8,6 +8,7 @@ ghost use Rattle.best_fit.specs.Ends.{AppendsBlock, MovesEnd, least_size};
 ghost use Rattle.best_fit.specs.GapNodes.{gaps_in, gaps_of, tiles_in};
 ghost use Rattle.best_fit.specs.GapTrees.{HasGapTree};
 ghost use Rattle.best_fit.specs.Heap.{IsHeap, heap_touches, live_of};
+ghost use Rattle.best_fit.specs.Touches.{TouchesOnce};
 
 use crate::deallocation;
 use crate::heap::Heap;
@@ -100,8 +101,7 @@ fn drop_gap(touches: &mut TouchCounter)
     requires no_overflow { touches.old.count + 1 < 2 ^ 64 }
     ensures changes { MovesEnd current touches.old.gaps.now.window touches.new.gaps.now.window
         (least_size (live_of touches.old.gaps.now.window.bytes)) }
-    ensures steps_exact { touches.new.count ≡ touches.old.count + 1 }
-    ensures same_borrow { touches.new.gaps.ghost_name ≡ touches.old.gaps.ghost_name }
+    ensures steps_exact { TouchesOnce touches.old touches.new }
 {
     let size = touches.drop_last();
     touches.resize(size);

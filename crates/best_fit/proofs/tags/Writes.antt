@@ -13,8 +13,7 @@ use Rattle.best_fit.proofs.Common.{EncodesTiles, HasTileAt, header_may_change, o
 use Rattle.best_fit.proofs.Common.{payload_may_change}
 use Rattle.best_fit.proofs.Common.{tiles_are_read_off, Extent, Gap, LiveSet, gaps, handle, holds, ChangesBytes, IsHeap}
 use Rattle.best_fit.proofs.Common.{EncodesLiveSet, extent_at, has_room, is_live_in, is_node_in, live_of, payload_at}
-use Rattle.best_fit.proofs.Common.{IsTree}
-use Rattle.best_fit.proofs.Common.{is_in, tree_same, link_at, SameBytesExcept-link, IsFreeTree, cells_of, payloads}
+use Rattle.best_fit.proofs.Common.{is_in, link_at, SameBytesExcept-link, IsFreeTree, cells_of, payloads}
 use Rattle.best_fit.proofs.Common.{tiles_in}
 use Rattle.raw_region.specs.Memory.{word_bytes}
 use Rattle.raw_region.proofs.Laws.{length-word_written, word-own}
@@ -26,7 +25,7 @@ use Rattle.best_fit.proofs.tags.TagsAndLiveSet.{live_in}
 use Rattle.best_fit.proofs.tags.TagsAndLiveSet.{legal_size}
 use Rattle.best_fit.proofs.tags.OneLiveSet.{lay_out_one}
 use Rattle.best_fit.proofs.gaps.Nodes.{Disjoint, NodeAt, in_around, node_from, row_disjoint}
-use Rattle.best_fit.proofs.gaps.Order.{in_sorted}
+use Rattle.best_fit.proofs.gaps.Order.{gap_tree_stays}
 use Rattle.best_fit.proofs.gaps.Setters.{beside_cell}
 use Rattle.best_fit.proofs.tags.TileJoins.{row_before}
 use Rattle.best_fit.proofs.tags.UnchangedTags.{In}
@@ -231,19 +230,9 @@ pub free_stays : (c d : WindowState) → IsHeap current c.bytes
 unfolding current
 free_stays c d heap root cells =
     let s = heap-says c heap in
-    let old = heap.free in
-    record {
-      tree = old.tree;
-      linked = subst (λ (o : Option ℕ). IsTree (cells_of (bytes_of d.bytes)) o old.tree) (sym root)
-          (tree_same (cells_of (bytes_of c.bytes)) (cells_of (bytes_of d.bytes))
-          (link_at (bytes_of c.bytes) 24) old.tree (λ m i.
-          cells m (node_from c m s.said s.apart (
-          ap (λ (gs : List Gap). is_in m (payloads gs)) (sym (heap-gaps c heap))
-          ∙ sym (in_sorted m (gaps (live_of c.bytes))) ∙ ap (λ (ns : List ℕ). is_in m ns) (sym old.lists) ∙ i)))
-          old.linked);
-      red_black = old.red_black;
-      lists = old.lists;
-    }
+    gap_tree_stays (bytes_of c.bytes) (bytes_of d.bytes) (gaps (live_of c.bytes)) root (λ m i. cells m
+    (node_from c m s.said s.apart (ap (λ (gs : List Gap). is_in m (payloads gs)) (sym (heap-gaps c heap)) ∙ i)))
+    heap.free
 
 -- the live set stays where the tags and the free tree do
 pub same_live : (c d : WindowState) → IsHeap current c.bytes → EncodesTiles d (tiles_in c)

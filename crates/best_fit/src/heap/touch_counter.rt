@@ -1,13 +1,13 @@
 //! Access of a heap's calls to its tiles and to the tree of its gaps. It counts each touch.
-ghost use Rattle.std.specs.Prelude.{◌≡◌, ℕ, ◌+◌, ◌*◌, ◌%◌, ◌^◌, ◌<◌, ◌≤◌, true, ◌-◌, Option, Some, None, IfSome, List};
+ghost use Rattle.std.specs.Prelude.{◌≡◌, ℕ, ◌+◌, ◌*◌, ◌%◌, ◌^◌, ◌<◌, ◌≤◌, true, Option, Some, None, IfSome, List};
 ghost use Rattle.std.specs.Prelude.{◌∷◌, ◌++◌, length, filter, is_some, option_map, false};
 ghost use Rattle.raw_region.specs.Memory.{cut_at, whole};
 ghost use Rattle.block_tags.specs.declared.tile.Role.{Role as ARole};
 ghost use Rattle.block_tags.specs.declared.tile.Tile.{Tile as ATile};
-ghost use Rattle.block_tags.specs.Lists.{joined_at, last_in, next_in, previous_in, split_at, tile_in, with_free};
-ghost use Rattle.block_tags.specs.Lists.{with_red_at, with_use_at, without_last};
-ghost use Rattle.block_tags.specs.Windows.{CanAppend, CanSplit, PrefixSaysTiles, HasFreeLast, HasFreeNext, HasTileAt};
-ghost use Rattle.block_tags.specs.Windows.{IsTiledWindow, CanTakeUse, MayHaveColour, SameExceptTags, EncodesTiles};
+ghost use Rattle.block_tags.specs.Lists.{joined_at, last_in, next_in, previous_in, split_at, tile_in};
+ghost use Rattle.block_tags.specs.Lists.{with_red_at, with_use_at};
+ghost use Rattle.block_tags.specs.Windows.{CanAppend, CanSplit, HasFreeLast, HasFreeNext, HasTileAt};
+ghost use Rattle.block_tags.specs.Windows.{IsTiledWindow, CanTakeUse, MayHaveColour, EncodesTiles};
 ghost use Rattle.link_tree.specs.Tree.{bits};
 ghost use Rattle.link_tree.specs.Nodes.{first_not_before, is_in};
 ghost use Rattle.link_tree.specs.Searching.{path_length};
@@ -17,6 +17,8 @@ ghost use Rattle.best_fit.specs.FreeTree.{payloads, sorted_gaps};
 ghost use Rattle.best_fit.specs.GapNodes.{gaps_in, is_gap_node, kept_of, own_probe, stands_before};
 ghost use Rattle.best_fit.specs.GapTrees.{HasGapTree, LacksGap, CanBeginRemoval, ChangesGapTree, is_long, node_of};
 ghost use Rattle.best_fit.specs.GapTrees.{root_of_gaps};
+ghost use Rattle.best_fit.specs.Touches.{ReadsOnce, TouchesOnce};
+ghost use Rattle.best_fit.specs.Tiling.{AppendsFree, ChangesTags, DropsLast};
 
 use crate::heap::nodes::{FREE_TREE_ROOT, GapProbe, GapTree, RIGHT_LINK, set_link};
 use block_tags::{Role, TAG_LEN, Tile};
@@ -166,9 +168,7 @@ impl<'a> TouchCounter<'a> {
         requires tile { HasTileAt self.old.gaps.now.window at }
         requires no_overflow { self.old.count + 1 < 2 ^ 64 }
         ensures tile { (ts : List ATile) → EncodesTiles self.old.gaps.now.window ts → tile_in ts at ≡ Some result }
-        ensures gaps { self.new.gaps.now ≡ self.old.gaps.now }
-        ensures steps_exact { self.new.count ≡ self.old.count + 1 }
-        ensures same_borrow { self.new.gaps.ghost_name ≡ self.old.gaps.ghost_name }
+        ensures steps_exact { ReadsOnce self.old self.new }
     {
         self.count += 1;
         block_tags::tile_at(&self.gaps.window, at)
@@ -178,12 +178,8 @@ impl<'a> TouchCounter<'a> {
     pub fn split(&mut self, at: u64, len: u64)
         requires tile { CanSplit self.old.gaps.now.window at len }
         requires no_overflow { self.old.count + 1 < 2 ^ 64 }
-        ensures tags { (ts : List ATile) → EncodesTiles self.old.gaps.now.window ts
-            → EncodesTiles self.new.gaps.now.window (split_at at len ts) }
-        ensures frame { (ts : List ATile) → EncodesTiles self.old.gaps.now.window ts
-            → SameExceptTags self.old.gaps.now.window self.new.gaps.now.window ts (split_at at len ts) }
-        ensures steps_exact { self.new.count ≡ self.old.count + 1 }
-        ensures same_borrow { self.new.gaps.ghost_name ≡ self.old.gaps.ghost_name }
+        ensures tags { ChangesTags self.old.gaps.now.window self.new.gaps.now.window (split_at at len) }
+        ensures steps_exact { TouchesOnce self.old self.new }
     {
         self.count += 1;
         block_tags::split(&mut self.gaps.window, at, len);
@@ -194,9 +190,7 @@ impl<'a> TouchCounter<'a> {
         requires tile { HasTileAt self.old.gaps.now.window at }
         requires no_overflow { self.old.count + 1 < 2 ^ 64 }
         ensures tile { (ts : List ATile) → EncodesTiles self.old.gaps.now.window ts → result ≡ next_in ts at }
-        ensures gaps { self.new.gaps.now ≡ self.old.gaps.now }
-        ensures steps_exact { self.new.count ≡ self.old.count + 1 }
-        ensures same_borrow { self.new.gaps.ghost_name ≡ self.old.gaps.ghost_name }
+        ensures steps_exact { ReadsOnce self.old self.new }
     {
         self.count += 1;
         block_tags::next(&self.gaps.window, at)
@@ -207,9 +201,7 @@ impl<'a> TouchCounter<'a> {
         requires tile { HasTileAt self.old.gaps.now.window at }
         requires no_overflow { self.old.count + 1 < 2 ^ 64 }
         ensures tile { (ts : List ATile) → EncodesTiles self.old.gaps.now.window ts → result ≡ previous_in ts at }
-        ensures gaps { self.new.gaps.now ≡ self.old.gaps.now }
-        ensures steps_exact { self.new.count ≡ self.old.count + 1 }
-        ensures same_borrow { self.new.gaps.ghost_name ≡ self.old.gaps.ghost_name }
+        ensures steps_exact { ReadsOnce self.old self.new }
     {
         self.count += 1;
         block_tags::previous(&self.gaps.window, at)
@@ -219,12 +211,8 @@ impl<'a> TouchCounter<'a> {
     pub fn merge_next(&mut self, at: u64)
         requires tile { HasFreeNext self.old.gaps.now.window at }
         requires no_overflow { self.old.count + 1 < 2 ^ 64 }
-        ensures tags { (ts : List ATile) → EncodesTiles self.old.gaps.now.window ts
-            → EncodesTiles self.new.gaps.now.window (joined_at at ts) }
-        ensures frame { (ts : List ATile) → EncodesTiles self.old.gaps.now.window ts
-            → SameExceptTags self.old.gaps.now.window self.new.gaps.now.window ts (joined_at at ts) }
-        ensures steps_exact { self.new.count ≡ self.old.count + 1 }
-        ensures same_borrow { self.new.gaps.ghost_name ≡ self.old.gaps.ghost_name }
+        ensures tags { ChangesTags self.old.gaps.now.window self.new.gaps.now.window (joined_at at) }
+        ensures steps_exact { TouchesOnce self.old self.new }
     {
         self.count += 1;
         block_tags::merge_next(&mut self.gaps.window, at);
@@ -234,12 +222,8 @@ impl<'a> TouchCounter<'a> {
     pub fn set_use(&mut self, at: u64, use_of: Option<Role>)
         requires tile { CanTakeUse self.old.gaps.now.window at use_of }
         requires no_overflow { self.old.count + 1 < 2 ^ 64 }
-        ensures tags { (ts : List ATile) → EncodesTiles self.old.gaps.now.window ts
-            → EncodesTiles self.new.gaps.now.window (with_use_at at use_of ts) }
-        ensures frame { (ts : List ATile) → EncodesTiles self.old.gaps.now.window ts
-            → SameExceptTags self.old.gaps.now.window self.new.gaps.now.window ts (with_use_at at use_of ts) }
-        ensures steps_exact { self.new.count ≡ self.old.count + 1 }
-        ensures same_borrow { self.new.gaps.ghost_name ≡ self.old.gaps.ghost_name }
+        ensures tags { ChangesTags self.old.gaps.now.window self.new.gaps.now.window (with_use_at at use_of) }
+        ensures steps_exact { TouchesOnce self.old self.new }
     {
         self.count += 1;
         block_tags::set_use(&mut self.gaps.window, at, use_of);
@@ -249,12 +233,8 @@ impl<'a> TouchCounter<'a> {
     pub fn blacken(&mut self, at: u64)
         requires tile { MayHaveColour self.old.gaps.now.window at false }
         requires no_overflow { self.old.count + 1 < 2 ^ 64 }
-        ensures tags { (ts : List ATile) → EncodesTiles self.old.gaps.now.window ts
-            → EncodesTiles self.new.gaps.now.window (with_red_at at false ts) }
-        ensures frame { (ts : List ATile) → EncodesTiles self.old.gaps.now.window ts
-            → SameExceptTags self.old.gaps.now.window self.new.gaps.now.window ts (with_red_at at false ts) }
-        ensures steps_exact { self.new.count ≡ self.old.count + 1 }
-        ensures same_borrow { self.new.gaps.ghost_name ≡ self.old.gaps.ghost_name }
+        ensures tags { ChangesTags self.old.gaps.now.window self.new.gaps.now.window (with_red_at at false) }
+        ensures steps_exact { TouchesOnce self.old self.new }
     {
         self.count += 1;
         block_tags::set_red(&mut self.gaps.window, at, false);
@@ -282,14 +262,8 @@ impl<'a> TouchCounter<'a> {
     pub fn append_free(&mut self, old_size: u64)
         requires fits { CanAppend self.old.gaps.now.window old_size }
         requires no_overflow { self.old.count + 1 < 2 ^ 64 }
-        ensures tags { (ts : List ATile) → PrefixSaysTiles self.old.gaps.now.window old_size ts
-            → EncodesTiles self.new.gaps.now.window
-            (with_free ts (old_size - TAG_LEN) (length self.old.gaps.now.window.bytes - TAG_LEN)) }
-        ensures frame { (ts : List ATile) → PrefixSaysTiles self.old.gaps.now.window old_size ts
-            → SameExceptTags self.old.gaps.now.window self.new.gaps.now.window ts
-            (with_free ts (old_size - TAG_LEN) (length self.old.gaps.now.window.bytes - TAG_LEN)) }
-        ensures steps_exact { self.new.count ≡ self.old.count + 1 }
-        ensures same_borrow { self.new.gaps.ghost_name ≡ self.old.gaps.ghost_name }
+        ensures tags { AppendsFree self.old.gaps.now.window self.new.gaps.now.window old_size }
+        ensures steps_exact { TouchesOnce self.old self.new }
     {
         self.count += 1;
         block_tags::append_free(&mut self.gaps.window, old_size);
@@ -300,9 +274,7 @@ impl<'a> TouchCounter<'a> {
         requires tiles { IsTiledWindow self.old.gaps.now.window }
         requires no_overflow { self.old.count + 1 < 2 ^ 64 }
         ensures tile { (ts : List ATile) → EncodesTiles self.old.gaps.now.window ts → result ≡ last_in ts }
-        ensures gaps { self.new.gaps.now ≡ self.old.gaps.now }
-        ensures steps_exact { self.new.count ≡ self.old.count + 1 }
-        ensures same_borrow { self.new.gaps.ghost_name ≡ self.old.gaps.ghost_name }
+        ensures steps_exact { ReadsOnce self.old self.new }
     {
         self.count += 1;
         block_tags::last(&self.gaps.window)
@@ -312,12 +284,8 @@ impl<'a> TouchCounter<'a> {
     pub fn drop_last(&mut self) -> u64
         requires tile { HasFreeLast self.old.gaps.now.window }
         requires no_overflow { self.old.count + 1 < 2 ^ 64 }
-        ensures tags { (ts : List ATile) → EncodesTiles self.old.gaps.now.window ts
-            → PrefixSaysTiles self.new.gaps.now.window result (without_last ts) }
-        ensures frame { (ts : List ATile) → EncodesTiles self.old.gaps.now.window ts
-            → SameExceptTags self.old.gaps.now.window self.new.gaps.now.window ts (without_last ts) }
-        ensures steps_exact { self.new.count ≡ self.old.count + 1 }
-        ensures same_borrow { self.new.gaps.ghost_name ≡ self.old.gaps.ghost_name }
+        ensures tags { DropsLast self.old.gaps.now.window self.new.gaps.now.window result }
+        ensures steps_exact { TouchesOnce self.old self.new }
     {
         self.count += 1;
         block_tags::drop_last(&mut self.gaps.window)

@@ -13,7 +13,7 @@ ghost use Rattle.best_fit.specs.GapNodes.{gaps_in};
 ghost use Rattle.best_fit.specs.GapTrees.{IsUnlinkedGap};
 ghost use Rattle.best_fit.specs.Heap.{Allocates, IsHeap, KeepsBlocks, EncodesLiveSet, heap_touches, live_of};
 ghost use Rattle.best_fit.specs.Tiling.{ChangesTags, cut_at};
-ghost use Rattle.best_fit.specs.Touches.{TouchesUpTo};
+ghost use Rattle.best_fit.specs.Touches.{TouchesMore, TouchesUpTo};
 
 use crate::heap::touch_counter::TouchCounter;
 use crate::refusal::NoSpace;
@@ -59,8 +59,7 @@ fn take(touches: &mut TouchCounter, at: u64, wanted: u64, role: Role)
         (live_of touches.old.gaps.now.window.bytes).extents }
     ensures steps { touches.new.count ≤ touches.old.count + 32 * bits (length (gaps_in touches.old.gaps.now.window))
         + 37 }
-    ensures steps_lower { touches.old.count ≤ touches.new.count }
-    ensures same_borrow { touches.new.gaps.ghost_name ≡ touches.old.gaps.ghost_name }
+    ensures steps_lower { TouchesMore touches.old touches.new }
 {
     touches.blacken(at);
     let is_cut = split_tail(touches, at, wanted);

@@ -1,5 +1,5 @@
 //! Frees blocks and joins gaps.
-ghost use Rattle.std.specs.Prelude.{◌≡◌, ℕ, ◌+◌, ◌*◌, ◌^◌, ◌<◌, ◌≤◌, List, Some, ◌++◌, IsTrue, length, true};
+ghost use Rattle.std.specs.Prelude.{◌≡◌, ◌+◌, ◌*◌, ◌^◌, ◌<◌, ◌≤◌, List, Some, ◌++◌, IsTrue, length, true};
 ghost use Rattle.block_tags.specs.declared.tile.Tile.{Tile as ATile};
 ghost use Rattle.raw_region.specs.Format.{current};
 ghost use Rattle.block_tags.specs.Lists.{next_in, previous_in, tile_in};
@@ -10,7 +10,7 @@ ghost use Rattle.best_fit.specs.Extents.{Gap};
 ghost use Rattle.best_fit.specs.GapNodes.{gaps_in};
 ghost use Rattle.best_fit.specs.GapTrees.{HasGapTree, ChangesGapTree, gap_offset, offset_of};
 ghost use Rattle.best_fit.specs.Heap.{IsHeap, Deallocates, is_live_in, live_of};
-ghost use Rattle.best_fit.specs.Touches.{ReadsOnce, TouchesUpTo};
+ghost use Rattle.best_fit.specs.Touches.{ReadsOnce, TouchesMore, TouchesSome, TouchesUpTo};
 ghost use Rattle.best_fit.specs.Tiling.{ChangesTags, free_behind, joined_before, joined_free_at};
 
 use crate::heap::touch_counter::TouchCounter;
@@ -25,8 +25,7 @@ pub fn release(touches: &mut TouchCounter, at: u64)
     ensures released { Deallocates current touches.old.gaps.now.window touches.new.gaps.now.window (at + TAG_LEN) }
     ensures steps { touches.new.count
         ≤ touches.old.count + 96 * bits (length (gaps_in touches.old.gaps.now.window) + 1) + 108 }
-    ensures steps_lower { touches.old.count < touches.new.count }
-    ensures same_borrow { touches.new.gaps.ghost_name ≡ touches.old.gaps.ghost_name }
+    ensures steps_lower { TouchesSome touches.old touches.new }
 {
     let behind = touches.next(at);
     let before = touches.previous(at);
@@ -53,8 +52,7 @@ pub fn unlink_if_gap(touches: &mut TouchCounter, gap: Option<u64>)
     ensures steps { (hs : List Gap) → HasGapTree touches.old.gaps.now.window hs
         → touches.new.count ≤ touches.old.count + 32 * bits (length hs + 1) + 33 }
     ensures steps_upper { touches.new.count ≤ touches.old.count + 2 ^ 12 }
-    ensures steps_lower { touches.old.count ≤ touches.new.count }
-    ensures same_borrow { touches.new.gaps.ghost_name ≡ touches.old.gaps.ghost_name }
+    ensures steps_lower { TouchesMore touches.old touches.new }
 {
     if let Some(at) = gap {
         touches.unlink_gap(at + TAG_LEN);

@@ -1,6 +1,5 @@
 //! A heap: a window full of blocks and gaps.
-ghost use Rattle.std.specs.Prelude.{◌≡◌, ◌≢◌, ◌-◌, ◌%◌, ◌<◌, ◌+◌, ◌≤◌, IsTrue, List, Option, Some, ℕ, length};
-ghost use Rattle.std.specs.Prelude.{option_map, slice_get};
+ghost use Rattle.std.specs.Prelude.{◌≡◌, ◌≢◌, ◌-◌, ◌%◌, ◌<◌, ◌+◌, IsTrue, List, Some, ℕ, length, option_map, slice_get};
 ghost use Rattle.std.specs.Borrow.{sem};
 ghost use Rattle.raw_region.specs.Memory.{HasBytesAt, bytes_of, read, whole, word_at};
 ghost use Rattle.raw_region.specs.Format.{current};

@@ -1,5 +1,5 @@
 //! Updates the block hints when a block is freed: its hint moves to the next block.
-ghost use Rattle.std.specs.Prelude.{◌≡◌, ◌≢◌, ℕ, ◌+◌, ◌^◌, ◌<◌, ◌≤◌, IfSome, IsTrue};
+ghost use Rattle.std.specs.Prelude.{◌≡◌, ◌≢◌, ℕ, ◌+◌, ◌^◌, ◌<◌, IfSome, IsTrue};
 ghost use Rattle.raw_region.specs.Format.{current};
 ghost use Rattle.best_fit.specs.Heap.{IsHeap, is_live_in, live_of};
 ghost use Rattle.best_fit.specs.BlockHints.{IsHinted, LeadToBlocks};

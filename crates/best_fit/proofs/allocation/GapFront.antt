@@ -1,12 +1,8 @@
 -- The allocation of a gap, or of its first bytes.
-use Rattle.best_fit.proofs.Common.{◌≡◌, refl, sym, ap, subst, ◌∙◌, ℕ, ◌+◌, ◌-◌, Bool, false, ◌||◌}
-use Rattle.best_fit.proofs.Common.{not, List, [], ◌∷◌, ◌++◌, length, IsTrue, Some, None}
-use Rattle.best_fit.proofs.Common.{false≢true, WindowState, bytes_of, Role, Tile, current}
-use Rattle.best_fit.proofs.Common.{tile_in}
-use Rattle.best_fit.proofs.Common.{with_use_at, used_for, may_be_red, EncodesTiles, HasTileAt}
-use Rattle.best_fit.proofs.Common.{CanTakeUse, Extent, insert, share, is_red, KeepsBlocks, live_of}
-use Rattle.best_fit.proofs.Common.{cut_to}
-use Rattle.best_fit.proofs.Common.{tiles_in}
+use Rattle.best_fit.proofs.Common.{◌≡◌, refl, sym, ap, subst, ◌∙◌, ℕ, ◌+◌, ◌-◌, Bool, false, ◌||◌, not, List, [], ◌∷◌}
+use Rattle.best_fit.proofs.Common.{◌++◌, length, IsTrue, Some, None, false≢true, WindowState, bytes_of, Role, Tile}
+use Rattle.best_fit.proofs.Common.{current, tile_in, with_use_at, used_for, may_be_red, EncodesTiles, HasTileAt}
+use Rattle.best_fit.proofs.Common.{CanTakeUse, Extent, insert, share, is_red, KeepsBlocks, live_of, cut_to, tiles_in}
 use Rattle.best_fit.proofs.tags.TileRows.{Row, Apart, extents_of, unused-free}
 use Rattle.best_fit.specs.Tiling.{ChangesTags, cut_at}
 use Rattle.best_fit.proofs.tags.RowParts.{Away, apart_back, apart_front, apart_joined, away_front, changed_at-around}

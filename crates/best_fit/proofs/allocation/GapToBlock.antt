@@ -1,27 +1,23 @@
 -- A gap that is not in the tree becomes a block, and its remainder a gap.
-use Rattle.best_fit.proofs.Common.{◌≡◌, refl, sym, ap, subst, ◌∙◌, ℕ, ◌+◌, ◌-◌, ◌≤◌, inl, inr, Bool, true, false}
-use Rattle.best_fit.proofs.Common.{List, [], ◌∷◌, ◌++◌, length, arith, nat_le, length-append, Some, WindowState}
-use Rattle.best_fit.proofs.Common.{bytes_of, Role, Tile, current, free_tile, of_colour, tile_in}
-use Rattle.best_fit.proofs.Common.{with_red_at, with_use_at, is_free, HasTileAt, CanTakeUse, MayHaveColour}
-use Rattle.best_fit.proofs.Common.{EncodesTiles}
-use Rattle.best_fit.proofs.Common.{tiles_are_read_off, is_in}
-use Rattle.best_fit.proofs.Common.{target_of, Extent, Gap, LiveSet, gaps, added, insert, share}
-use Rattle.best_fit.proofs.Common.{IsTreeOf, cells_of, is_red, payloads, sorted_gaps, gap_of, gaps_of, gaps_in}
-use Rattle.best_fit.proofs.Common.{tiles_in, GapNode, is_good-IsGoodHeap, HasGapTree, LacksGap, IsUnlinkedGap}
-use Rattle.best_fit.proofs.Common.{ChangesGapTree}
-use Rattle.best_fit.proofs.Common.{node_of}
+use Rattle.best_fit.proofs.Common.{◌≡◌, refl, sym, ap, subst, ◌∙◌, ℕ, ◌+◌, ◌-◌, ◌≤◌, inl, inr, Bool, true, false, List}
+use Rattle.best_fit.proofs.Common.{[], ◌∷◌, ◌++◌, length, arith, nat_le, length-append, Some, WindowState, bytes_of}
+use Rattle.best_fit.proofs.Common.{Role, Tile, current, free_tile, of_colour, tile_in, with_red_at, with_use_at}
+use Rattle.best_fit.proofs.Common.{is_free, HasTileAt, CanTakeUse, MayHaveColour, EncodesTiles, tiles_are_read_off}
+use Rattle.best_fit.proofs.Common.{is_in, target_of, Extent, Gap, LiveSet, gaps, added, insert, share, IsTreeOf}
+use Rattle.best_fit.proofs.Common.{cells_of, is_red, payloads, sorted_gaps, gap_of, gaps_of, gaps_in, tiles_in, GapNode}
+use Rattle.best_fit.proofs.Common.{is_good-IsGoodHeap, HasGapTree, LacksGap, IsUnlinkedGap, ChangesGapTree, node_of}
 use Rattle.best_fit.proofs.Common.{KeepsBlocks, EncodesLiveSet, live_of}
 use Rattle.best_fit.specs.Tiling.{ChangesTags, cut_at}
 use Rattle.best_fit.proofs.tags.RowParts.{Away, away_front, changed_at-around}
 use Rattle.best_fit.proofs.tags.Frames.{keeps-insert, keeps-trans}
 use Rattle.best_fit.proofs.gaps.Nodes.{free_at, in_around, listed_at, row_lies, tile_colour}
 use Rattle.best_fit.proofs.gaps.Order.{gap_tree_stays}
-use Rattle.best_fit.proofs.gaps.Setters.{gap_may}
+use Rattle.best_fit.proofs.gaps.Setters.{gap_may, step_cell}
 use Rattle.best_fit.proofs.gaps.OneField.{same_gaps}
 use Rattle.best_fit.proofs.tags.TileJoins.{extents_of-append}
 use Rattle.best_fit.proofs.tags.TagsAndLiveSet.{SaysHeap, gaps-live_in, legal_size, live_in, said_row, says-live}
 use Rattle.best_fit.proofs.tags.TagsAndLiveSet.{says-EncodesLiveSet, says_of}
-use Rattle.best_fit.proofs.gaps.LinksOnly.{regrown_keeps, regrown_live, step_cell, tree_says, used_stays}
+use Rattle.best_fit.proofs.gaps.LinksOnly.{regrown_keeps, regrown_live, tree_says, used_stays}
 use Rattle.best_fit.proofs.tags.TileRows.{Apart, Apart-is_merged, extents_of, extents_of-free, gaps_of-append}
 use Rattle.best_fit.proofs.tags.TileRows.{gaps_of-free, gaps_of-used, used-not_free}
 use Rattle.best_fit.proofs.tags.UnchangedTags.{In, TagStep, around_keeps, in_back, in_stands, step_word, tag_step}

@@ -1,14 +1,11 @@
 -- A block is freed: its free neighbours leave the tree, and the gap that it forms with them enters the tree.
 use Rattle.best_fit.proofs.Common.{◌≡◌, refl, sym, ap, subst, ◌∙◌, ℕ, ◌+◌, ◌-◌, ◌*◌, ◌≤◌, false, List, [], ◌∷◌, ◌++◌}
-use Rattle.best_fit.proofs.Common.{length, append_assoc, arith, None, map, WindowState, bytes_of, Tile}
-use Rattle.best_fit.proofs.Common.{current, gap_offset}
-use Rattle.best_fit.proofs.Common.{first_in, last_in, next_in, previous_in, with_red_at, with_use_at, without_last}
-use Rattle.best_fit.proofs.Common.{EncodesTiles, bits}
-use Rattle.best_fit.proofs.Common.{target_of, Gap, LiveSet, others, released}
-use Rattle.best_fit.proofs.Common.{gap_of, gaps_of, gaps_in, plain, tiles_in}
-use Rattle.best_fit.proofs.Common.{HasGapTree, LacksGap, ChangesGapTree, node_of, tile_list, start_of, IsHeap}
-use Rattle.best_fit.proofs.Common.{Deallocates}
-use Rattle.best_fit.proofs.Common.{KeepsBlocks, EncodesLiveSet, live_of, joined_free_at}
+use Rattle.best_fit.proofs.Common.{length, append_assoc, arith, None, map, WindowState, bytes_of, Tile, current}
+use Rattle.best_fit.proofs.Common.{gap_offset, first_in, last_in, next_in, previous_in, with_red_at, with_use_at}
+use Rattle.best_fit.proofs.Common.{without_last, EncodesTiles, bits, target_of, Gap, LiveSet, others, released, gap_of}
+use Rattle.best_fit.proofs.Common.{gaps_of, gaps_in, plain, tiles_in, HasGapTree, LacksGap, ChangesGapTree, node_of}
+use Rattle.best_fit.proofs.Common.{tile_list, start_of, IsHeap, Deallocates, KeepsBlocks, EncodesLiveSet, live_of}
+use Rattle.best_fit.proofs.Common.{joined_free_at}
 use Rattle.best_fit.proofs.allocation.LeastGap.{bits-le, heap_tree}
 use Rattle.best_fit.proofs.tags.RowParts.{Away, away_front, next_in-around, previous_in-around}
 use Rattle.best_fit.proofs.tags.Frames.{keeps-others, keeps-trans}

@@ -1,18 +1,15 @@
 -- A block that is freed becomes one gap with the gaps before and after it.
-use Rattle.best_fit.proofs.Common.{◌≡◌, refl, sym, ap, subst, ◌∙◌, ℕ, ◌+◌, ◌-◌, Bool, true, false, List, [], ◌∷◌}
-use Rattle.best_fit.proofs.Common.{◌++◌, length, append_assoc, if◌then◌else◌, inl, inr, ◌⊎◌, Option, Some, None}
-use Rattle.best_fit.proofs.Common.{both_ways, cond-true, cond-false, WindowState, Role, Tile, previous_in, last_in}
-use Rattle.best_fit.proofs.Common.{first_in, gap_offset, next_in, same_Some, tile_in}
-use Rattle.best_fit.proofs.Common.{with_use_at, with_red_at, used_for, of_colour, is_free, EncodesTiles}
-use Rattle.best_fit.proofs.Common.{HasTileAt, CanTakeUse, MayHaveColour, Extent, others, released, KeepsBlocks, live_of}
-use Rattle.best_fit.proofs.Common.{joined_before, joined_free_at, with_free_behind, cons_option, bytes_of, word_at}
-use Rattle.best_fit.proofs.Common.{without_last, tiles_are_read_off, is_in, Gap, cells_of, payloads, as_gap, gap_of}
-use Rattle.best_fit.proofs.Common.{gaps_of, gaps_in, tiles_in, start_of}
+use Rattle.best_fit.proofs.Common.{◌≡◌, refl, sym, ap, subst, ◌∙◌, ℕ, ◌+◌, ◌-◌, Bool, true, false, List, [], ◌∷◌, ◌++◌}
+use Rattle.best_fit.proofs.Common.{length, append_assoc, if◌then◌else◌, inl, inr, ◌⊎◌, Option, Some, None, both_ways}
+use Rattle.best_fit.proofs.Common.{cond-true, cond-false, WindowState, Role, Tile, previous_in, last_in, first_in}
+use Rattle.best_fit.proofs.Common.{gap_offset, next_in, same_Some, tile_in, with_use_at, with_red_at, used_for}
+use Rattle.best_fit.proofs.Common.{of_colour, is_free, EncodesTiles, HasTileAt, CanTakeUse, MayHaveColour, Extent}
+use Rattle.best_fit.proofs.Common.{others, released, KeepsBlocks, live_of, joined_before, joined_free_at}
+use Rattle.best_fit.proofs.Common.{with_free_behind, cons_option, bytes_of, word_at, without_last, tiles_are_read_off}
+use Rattle.best_fit.proofs.Common.{is_in, Gap, cells_of, payloads, as_gap, gap_of, gaps_of, gaps_in, tiles_in, start_of}
 use Rattle.best_fit.proofs.tags.RowParts.{Away, last_in-EndsWith, is_free_option, last_free-last_in, apart_back}
-use Rattle.best_fit.proofs.tags.RowParts.{apart_front}
-use Rattle.best_fit.proofs.tags.RowParts.{apart_joined, away_front, changed_at-around, last_free, next_in-around}
-use Rattle.best_fit.proofs.tags.RowParts.{previous_in-around}
-use Rattle.best_fit.proofs.tags.RowParts.{tile_in-around}
+use Rattle.best_fit.proofs.tags.RowParts.{apart_front, apart_joined, away_front, changed_at-around, last_free}
+use Rattle.best_fit.proofs.tags.RowParts.{next_in-around, previous_in-around, tile_in-around}
 use Rattle.best_fit.proofs.tags.Frames.{keeps-trans}
 use Rattle.best_fit.proofs.tags.TileJoins.{JoinsTo, joins_to, extents_of-around, extents_of-around_free, others_between}
 use Rattle.best_fit.proofs.tags.TileJoins.{rest_of}
@@ -20,11 +17,10 @@ use Rattle.best_fit.specs.Tiling.{ChangesTags}
 use Rattle.std.specs.Prelude.{unwrap_or}
 use Rattle.best_fit.proofs.tags.TagsAndLiveSet.{SaysHeap, said_row, says_of}
 use Rattle.best_fit.proofs.tags.TileRows.{Apart, extents_of, extent_of, free-unused, gaps_of-append, unused, used}
-use Rattle.best_fit.proofs.tags.TileRows.{use_cases}
-use Rattle.best_fit.proofs.tags.TileRows.{unused-free, gaps_of-free, gaps_of-used}
+use Rattle.best_fit.proofs.tags.TileRows.{use_cases, unused-free, gaps_of-free, gaps_of-used}
 use Rattle.best_fit.proofs.tags.UnchangedTags.{In, TagStep, around_keeps, in_back, in_front, step_word, tag_step}
 use Rattle.best_fit.proofs.gaps.Nodes.{free_at, in_around}
-use Rattle.best_fit.proofs.gaps.LinksOnly.{step_cell}
+use Rattle.best_fit.proofs.gaps.Setters.{step_cell}
 
 -- ---- a free tile that is joined with the one before it
 

@@ -2,8 +2,7 @@
 use Rattle.best_fit.proofs.Common.{◌≡◌, refl, sym, ap, subst, ◌∙◌, ℕ, ◌+◌, ◌-◌, ◌<◌, ◌≤◌, Bool, true, false, List, []}
 use Rattle.best_fit.proofs.Common.{◌∷◌, ◌++◌, length, arith, IsTrue, Some, None, both_ways, append-nil, length-append}
 use Rattle.best_fit.proofs.Common.{same_Some, none-some, WindowState, SameBytes, bytes_of, whole, current, Tile}
-use Rattle.best_fit.proofs.Common.{last_in}
-use Rattle.best_fit.proofs.Common.{without_last, is_free, PrefixSaysTiles, EncodesTiles, SameExceptTags}
+use Rattle.best_fit.proofs.Common.{last_in, without_last, is_free, PrefixSaysTiles, EncodesTiles, SameExceptTags}
 use Rattle.best_fit.proofs.Common.{prefix_is_a_window, tiles_are_read_off, MovesEnd, KeepsTo, last_end, least_size}
 use Rattle.best_fit.proofs.Common.{of_size, Extent, IsTreeOf, payloads, sorted_gaps, gaps_in, gaps_of, tiles_in}
 use Rattle.best_fit.proofs.Common.{HasGapTree, EncodesLiveSet, live_of}
@@ -19,9 +18,7 @@ use Rattle.best_fit.proofs.tags.TagsAndLiveSet.{IsLegal, SaysHeap, legal_size, s
 use Rattle.best_fit.proofs.allocation.GapToBlock.{lays_out}
 use Rattle.best_fit.proofs.gaps.LinksOnly.{tree_says}
 use Rattle.best_fit.proofs.tags.TileRows.{Apart, AreContiguous-Row, Row, extents_of, extents_of-free, extents_of-used}
-use Rattle.best_fit.proofs.tags.TileRows.{unused}
-use Rattle.best_fit.proofs.tags.TileRows.{used}
-use Rattle.best_fit.proofs.tags.TileRows.{use_cases, unused-free}
+use Rattle.best_fit.proofs.tags.TileRows.{unused, used, use_cases, unused-free}
 use Rattle.best_fit.proofs.tags.UnchangedTags.{In, in_front, inside, low_beside, tag_in}
 
 -- ---- where the last block ends

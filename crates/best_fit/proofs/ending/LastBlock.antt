@@ -2,8 +2,7 @@
 use Rattle.best_fit.proofs.Common.{◌≡◌, refl, sym, ap, subst, ◌∙◌, ℕ, ◌+◌, ◌-◌, ◌%◌, ◌<◌, ◌≤◌, inl, inr, false, List}
 use Rattle.best_fit.proofs.Common.{[], ◌∷◌, ◌++◌, length, arith, IsTrue, ◌==◌, Some, list_any, append-nil, false≢true}
 use Rattle.best_fit.proofs.Common.{eq-eqb, or_left, or_right, WindowState, SameBytes, bytes_of, whole, current, Object}
-use Rattle.best_fit.proofs.Common.{Tile}
-use Rattle.best_fit.proofs.Common.{is_legal_size, free_tile, used_for, with_use_at, PrefixSaysTiles, CanTakeUse}
+use Rattle.best_fit.proofs.Common.{Tile, is_legal_size, free_tile, used_for, with_use_at, PrefixSaysTiles, CanTakeUse}
 use Rattle.best_fit.proofs.Common.{EncodesTiles, SameExceptTags, prefix_is_a_window, tiles_are_read_off, AppendsBlock}
 use Rattle.best_fit.proofs.Common.{MovesEnd, KeepsTo, of_size, Extent, Gap, LiveSet, end_of, handle, proper_from}
 use Rattle.best_fit.proofs.Common.{others, released, IsTreeOf, payloads, sorted_gaps, gaps_in, gaps_of, tiles_in}
@@ -14,8 +13,7 @@ use Rattle.best_fit.specs.Ends.{block_behind}
 use Rattle.best_fit.proofs.allocation.LeastGap.{heap_tree}
 use Rattle.best_fit.proofs.tags.RowParts.{Away, apart_joined, changed_at-around, row_away, tile_in-around}
 use Rattle.best_fit.proofs.ending.TwoMemories.{Carries, carried_blocks, carried_tree, ends-then, keeps_to-then}
-use Rattle.best_fit.proofs.ending.TwoMemories.{resized_ends}
-use Rattle.best_fit.proofs.ending.TwoMemories.{resized_same}
+use Rattle.best_fit.proofs.ending.TwoMemories.{resized_ends, resized_same}
 use Rattle.best_fit.proofs.extents.Changes.{is_proper-IsProper}
 use Rattle.best_fit.proofs.tags.TileJoins.{extents_of-append}
 use Rattle.best_fit.proofs.tags.TagsAndLiveSet.{says_of, IsLegal, SaysHeap, heap-says, legal_size, said_row, says-live}

@@ -1,13 +1,11 @@
 -- Tiles in two memories, with the same payloads: their blocks and their tree are the same. And a window whose end
 -- moves.
-use Rattle.best_fit.proofs.Common.{◌≡◌, sym, ap, subst, ◌∙◌, ℕ, ◌+◌, ◌-◌, ◌/◌, ◌%◌, ◌≤◌, true, List, ◌++◌, length}
-use Rattle.best_fit.proofs.Common.{take, drop, arith, ◌==◌, append_assoc, slice_index, AllByRecursion}
-use Rattle.best_fit.proofs.Common.{length-append, Memory, WindowState, SameBytes, SameSurroundings, bytes_of, part}
-use Rattle.best_fit.proofs.Common.{whole, word_at}
-use Rattle.best_fit.proofs.Common.{SameBytes-trans, SameBytes-word, length-part, part-at, whole-cut_at, Tile}
-use Rattle.best_fit.proofs.Common.{is_in}
-use Rattle.best_fit.proofs.Common.{link_at, target_of, KeepsTo, Extent, IsTreeOf, cells_of, payloads}
-use Rattle.best_fit.proofs.Common.{sorted_gaps, gaps_of, KeepsBlocks, SameBlock}
+use Rattle.best_fit.proofs.Common.{◌≡◌, sym, ap, subst, ◌∙◌, ℕ, ◌+◌, ◌-◌, ◌/◌, ◌%◌, ◌≤◌, true, List, ◌++◌, length, take}
+use Rattle.best_fit.proofs.Common.{drop, arith, ◌==◌, append_assoc, slice_index, AllByRecursion, length-append, Memory}
+use Rattle.best_fit.proofs.Common.{WindowState, SameBytes, SameSurroundings, bytes_of, part, whole, word_at}
+use Rattle.best_fit.proofs.Common.{SameBytes-trans, SameBytes-word, length-part, part-at, whole-cut_at, Tile, is_in}
+use Rattle.best_fit.proofs.Common.{link_at, target_of, KeepsTo, Extent, IsTreeOf, cells_of, payloads, sorted_gaps}
+use Rattle.best_fit.proofs.Common.{gaps_of, KeepsBlocks, SameBlock}
 use Rattle.std.proofs.Math.Seq.{drop-append_seam, take-append_seam}
 use Rattle.std.proofs.lemmas.List.{drop-drop}
 use Rattle.raw_region.specs.Memory.{cut_at}

@@ -3,15 +3,13 @@ use Rattle.best_fit.proofs.Common.{◌≡◌, refl, sym, ap, subst, ◌∙◌, �
 use Rattle.best_fit.proofs.Common.{◌&&◌, ◌||◌, not, List, [], ◌∷◌, ◌++◌, length, append_assoc, arith, nat_le, ◌==◌}
 use Rattle.best_fit.proofs.Common.{IsTrue, Option, Some, None, is_some, map, AllByRecursion, list_all, false≢true}
 use Rattle.best_fit.proofs.Common.{and_parts, and_from, or_cases, or_left, or_right, append-nil, Memory, WindowState}
-use Rattle.best_fit.proofs.Common.{SameBytesExcept}
-use Rattle.best_fit.proofs.Common.{SameSurroundings, bytes_of, word_at, current, Role, Object, Index, Storage, Node}
-use Rattle.best_fit.proofs.Common.{Tile}
-use Rattle.best_fit.proofs.Common.{is_legal_size, has_tags, is_merged, may_be_red, tag_word, tiles_of, EncodesTiles}
-use Rattle.best_fit.proofs.Common.{good_tags_say_tiles, header_may_change, one_tile_at_an_offset, payload_may_change}
-use Rattle.best_fit.proofs.Common.{tiles_are_read_off, leaf, IsSearchTree, is_in, leads, link_at, SameBytesExcept-link}
-use Rattle.best_fit.proofs.Common.{Gap}
-use Rattle.best_fit.proofs.Common.{cells_of, payloads, comes_before, gap_cells, gap_of, gaps_in, gaps_of, kept_of}
-use Rattle.best_fit.proofs.Common.{links_among, plain, tiles_in, IsGoodHeap, AreSomeGaps, HasGapTree, ChangesGapTree}
+use Rattle.best_fit.proofs.Common.{SameBytesExcept, SameSurroundings, bytes_of, word_at, current, Role, Object, Index}
+use Rattle.best_fit.proofs.Common.{Storage, Node, Tile, is_legal_size, has_tags, is_merged, may_be_red, tag_word}
+use Rattle.best_fit.proofs.Common.{tiles_of, EncodesTiles, good_tags_say_tiles, header_may_change}
+use Rattle.best_fit.proofs.Common.{one_tile_at_an_offset, payload_may_change, tiles_are_read_off, leaf, IsSearchTree}
+use Rattle.best_fit.proofs.Common.{is_in, leads, link_at, SameBytesExcept-link, Gap, cells_of, payloads, comes_before}
+use Rattle.best_fit.proofs.Common.{gap_cells, gap_of, gaps_in, gaps_of, kept_of, links_among, plain, tiles_in}
+use Rattle.best_fit.proofs.Common.{IsGoodHeap, AreSomeGaps, HasGapTree, ChangesGapTree}
 use Rattle.block_tags.specs.Tiles.{are_tags, is_tile}
 use Rattle.best_fit.proofs.tags.RowParts.{row_back, row_end, row_front, row_reaches}
 use Rattle.best_fit.proofs.free_tree.Trees.{regrown, rooted}
@@ -19,8 +17,7 @@ use Rattle.best_fit.proofs.gaps.Nodes.{NodeAt, in_around, listed_at, node_from, 
 use Rattle.best_fit.proofs.gaps.OneField.{kept_round}
 use Rattle.best_fit.proofs.tags.TagsAndLiveSet.{SaysHeap, said_row}
 use Rattle.best_fit.proofs.tags.TileRows.{Apart, Row, is_merged-Apart, Apart-is_merged, unused, used, use_cases}
-use Rattle.best_fit.proofs.tags.TileRows.{gaps_of-free}
-use Rattle.best_fit.proofs.tags.TileRows.{gaps_of-used}
+use Rattle.best_fit.proofs.tags.TileRows.{gaps_of-free, gaps_of-used}
 use Rattle.best_fit.proofs.tags.UnchangedTags.{all_joined}
 use Rattle.best_fit.proofs.free_tree.WalkTurns.{Ended, Passed, free_if, gaps_past_block, gaps_past_gap}
 use Rattle.best_fit.proofs.tile_walk.Walk.{Turn}

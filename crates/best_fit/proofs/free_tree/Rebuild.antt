@@ -2,14 +2,12 @@
 use Rattle.best_fit.proofs.Common.{◌≡◌, refl, sym, ap, subst, ◌∙◌, ℕ, ◌+◌, ◌⊎◌, inl, inr, true, false, List, [], ◌∷◌}
 use Rattle.best_fit.proofs.Common.{◌++◌, length, append_assoc, length-append, arith, ◌==◌, Option, None, is_some, map}
 use Rattle.best_fit.proofs.Common.{false≢true, or_cases, or_left, or_right, append-nil, WindowState, SameBytesExcept}
-use Rattle.best_fit.proofs.Common.{bytes_of}
-use Rattle.best_fit.proofs.Common.{current, Tile, EncodesTiles, tiles_are_read_off, Tree, IsSearchTree, nodes_of}
-use Rattle.best_fit.proofs.Common.{is_ordered_with, is_in, insert_in_order, link_at, Gap, payloads, sorted_gaps}
-use Rattle.best_fit.proofs.Common.{comes_before}
-use Rattle.best_fit.proofs.Common.{gap_cells, gap_of, gaps_in, gaps_of, is_gap_node, kept_of, plain, tiles_in}
-use Rattle.best_fit.proofs.Common.{GapNode-is_gap_node, is_good-IsGoodHeap, AreSomeGaps, HaveGapLengths, HasGapTree}
-use Rattle.best_fit.proofs.Common.{ChangesGapTree, AreAscending, node_of}
-use Rattle.best_fit.proofs.Common.{IsHeap, EncodesLiveSet, AreBytes}
+use Rattle.best_fit.proofs.Common.{bytes_of, current, Tile, EncodesTiles, tiles_are_read_off, Tree, IsSearchTree}
+use Rattle.best_fit.proofs.Common.{nodes_of, is_ordered_with, is_in, insert_in_order, link_at, Gap, payloads}
+use Rattle.best_fit.proofs.Common.{sorted_gaps, comes_before, gap_cells, gap_of, gaps_in, gaps_of, is_gap_node, kept_of}
+use Rattle.best_fit.proofs.Common.{plain, tiles_in, GapNode-is_gap_node, is_good-IsGoodHeap, AreSomeGaps}
+use Rattle.best_fit.proofs.Common.{HaveGapLengths, HasGapTree, ChangesGapTree, AreAscending, node_of, IsHeap}
+use Rattle.best_fit.proofs.Common.{EncodesLiveSet, AreBytes}
 use Rattle.best_fit.specs.Rebuilding.{IsNextGap, RebuildsFreeTree}
 use Rattle.best_fit.proofs.gaps.BesideNodes.{beside_gaps, free_bytes}
 use Rattle.best_fit.proofs.free_tree.Trees.{all_gaps, in_here}

@@ -1,8 +1,7 @@
 -- A walk over the tiles of a window that changes on the way: each turn passes one tile.
 use Rattle.best_fit.proofs.Common.{◌≡◌, sym, ap, subst, ◌∙◌, ℕ, ◌-◌, ◌<◌, true, false, List, [], ◌∷◌, ◌++◌, length}
 use Rattle.best_fit.proofs.Common.{Option, Some, None, is_some, both_ways, append-nil, WindowState, Tile, first_in}
-use Rattle.best_fit.proofs.Common.{next_in}
-use Rattle.best_fit.proofs.Common.{HasTileAt, EncodesTiles, Gap, gap_of, gaps_of}
+use Rattle.best_fit.proofs.Common.{next_in, HasTileAt, EncodesTiles, Gap, gap_of, gaps_of}
 use Rattle.best_fit.proofs.tags.TileRows.{unused, used, use_cases, gaps_of-append, gaps_of-free, gaps_of-used}
 use Rattle.best_fit.proofs.tile_walk.Walk.{Walk, meets, next_here, next_nearer, none_left, passed_on, to_go}
 

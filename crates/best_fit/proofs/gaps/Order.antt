@@ -5,11 +5,9 @@ use Rattle.best_fit.proofs.Common.{None, filter, find, option_map, if◌then◌e
 use Rattle.best_fit.proofs.Common.{cases_Bool, cases_eq, cases_lt, and_from, or_left, or_right, leb-true, le-leb}
 use Rattle.best_fit.proofs.Common.{eq-eqb, ne_eqb, cond-true, cond-false, cond_both, lt-ltb, le-ltb, lt-leb, is_sorted}
 use Rattle.best_fit.proofs.Common.{first_not_before, is_ordered_with, is_in, insert_in_order, without, Gap, least}
-use Rattle.best_fit.proofs.Common.{precedes}
-use Rattle.best_fit.proofs.Common.{insert_gap}
-use Rattle.best_fit.proofs.Common.{payloads, sorted_gaps, comes_before, from_first, len_in, stands_before}
-use Rattle.best_fit.proofs.Common.{HaveGapLengths, AreAscending, is_long}
-use Rattle.best_fit.proofs.Common.{node_of, Memory, IsTree, IsTreeOf, cells_of, link_at, tree_same}
+use Rattle.best_fit.proofs.Common.{precedes, insert_gap, payloads, sorted_gaps, comes_before, from_first, len_in}
+use Rattle.best_fit.proofs.Common.{stands_before, HaveGapLengths, AreAscending, is_long, node_of, Memory, IsTree}
+use Rattle.best_fit.proofs.Common.{IsTreeOf, cells_of, link_at, tree_same}
 use Rattle.link_tree.proofs.Laws.{rises_put, without_none}
 use Rattle.best_fit.specs.GapLaws.{Comes, comes, comes-Comes, Comes-comes, comes-false, comes-trans, comes_transitive}
 

@@ -1,17 +1,13 @@
 -- The colour of a block's tile changes.
-use Rattle.best_fit.proofs.Common.{◌≡◌, refl, sym, ap, subst, ◌∙◌, ℕ, ◌+◌, ◌-◌, ◌<◌, ◌≤◌, Bool, true, false, ◌||◌}
-use Rattle.best_fit.proofs.Common.{not, List, [], ◌∷◌, ◌++◌, length, arith, IsTrue, Option, Some, AllByRecursion}
-use Rattle.best_fit.proofs.Common.{none-some, WindowState, SameBytes, SameBytesExcept, bytes_of, Role, Node}
-use Rattle.best_fit.proofs.Common.{Tile, current}
-use Rattle.best_fit.proofs.Common.{of_colour, tile_in, with_red_at, may_be_red}
-use Rattle.best_fit.proofs.Common.{MayHaveColour, one_tile_at_an_offset, target_of}
-use Rattle.best_fit.proofs.Common.{Extent}
-use Rattle.best_fit.proofs.Common.{LiveSet, handle, end_of, others, IsFreeTree, cells_of, IsHeap}
+use Rattle.best_fit.proofs.Common.{◌≡◌, refl, sym, ap, subst, ◌∙◌, ℕ, ◌+◌, ◌-◌, ◌<◌, ◌≤◌, Bool, true, false, ◌||◌, not}
+use Rattle.best_fit.proofs.Common.{List, [], ◌∷◌, ◌++◌, length, arith, IsTrue, Option, Some, AllByRecursion, none-some}
+use Rattle.best_fit.proofs.Common.{WindowState, SameBytes, SameBytesExcept, bytes_of, Role, Node, Tile, current}
+use Rattle.best_fit.proofs.Common.{of_colour, tile_in, with_red_at, may_be_red, MayHaveColour, one_tile_at_an_offset}
+use Rattle.best_fit.proofs.Common.{target_of, Extent, LiveSet, handle, end_of, others, IsFreeTree, cells_of, IsHeap}
 use Rattle.best_fit.proofs.Common.{Recolours, KeepsBlocks, EncodesLiveSet, is_node_in, live_of}
 use Rattle.best_fit.proofs.tags.RowParts.{Away, away_front, changed_at-around}
 use Rattle.best_fit.proofs.gaps.Nodes.{NodeAt, tile_colour}
-use Rattle.best_fit.proofs.gaps.LinksOnly.{step_cell}
-use Rattle.best_fit.proofs.gaps.Setters.{beside_recoloured}
+use Rattle.best_fit.proofs.gaps.Setters.{beside_recoloured, step_cell}
 use Rattle.best_fit.proofs.tags.TagsAndLiveSet.{SaysHeap, heap-says, said_row, says-EncodesLiveSet, live_in}
 use Rattle.best_fit.proofs.allocation.GapToBlock.{apart_recoloured, extents_recoloured}
 use Rattle.best_fit.proofs.tags.TileJoins.{others_between, extents_of-around}

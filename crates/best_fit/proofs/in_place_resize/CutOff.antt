@@ -1,14 +1,11 @@
 -- A block is joined with the gap after it, which leaves the tree, and the part cut off enters the tree.
 use Rattle.best_fit.proofs.Common.{◌≡◌, refl, sym, ap, subst, ◌∙◌, ℕ, ◌+◌, ◌-◌, ◌*◌, ◌≤◌, Bool, true, false, List, []}
-use Rattle.best_fit.proofs.Common.{◌∷◌, ◌++◌, length, arith, nat_le, Some, map, min, Memory, WindowState}
-use Rattle.best_fit.proofs.Common.{bytes_of, gap_offset}
-use Rattle.best_fit.proofs.Common.{Tile, current, first_in, free_tile, next_in, tile_in, EncodesTiles}
-use Rattle.best_fit.proofs.Common.{bits, target_of, Extent, Gap}
-use Rattle.best_fit.proofs.Common.{LiveSet, handle, end_of, gap_after, others, resized, share, IsTreeOf}
-use Rattle.best_fit.proofs.Common.{payloads, sorted_gaps, gap_of, gaps_of, gaps_in, plain, tiles_in, HasGapTree}
-use Rattle.best_fit.proofs.Common.{LacksGap, ChangesGapTree, node_of, tile_list, IsHeap, KeepsBlocks, EncodesLiveSet}
-use Rattle.best_fit.proofs.Common.{SameBlock, live_of}
-use Rattle.best_fit.proofs.Common.{SplitsBlock, free_len, joined_free_at}
+use Rattle.best_fit.proofs.Common.{◌∷◌, ◌++◌, length, arith, nat_le, Some, map, min, Memory, WindowState, bytes_of}
+use Rattle.best_fit.proofs.Common.{gap_offset, Tile, current, first_in, free_tile, next_in, tile_in, EncodesTiles, bits}
+use Rattle.best_fit.proofs.Common.{target_of, Extent, Gap, LiveSet, handle, end_of, gap_after, others, resized, share}
+use Rattle.best_fit.proofs.Common.{IsTreeOf, payloads, sorted_gaps, gap_of, gaps_of, gaps_in, plain, tiles_in}
+use Rattle.best_fit.proofs.Common.{HasGapTree, LacksGap, ChangesGapTree, node_of, tile_list, IsHeap, KeepsBlocks}
+use Rattle.best_fit.proofs.Common.{EncodesLiveSet, SameBlock, live_of, SplitsBlock, free_len, joined_free_at}
 use Rattle.raw_region.proofs.Laws.{SameBytes-part}
 use Rattle.best_fit.specs.Tiling.{ChangesTags, cut_at}
 use Rattle.best_fit.proofs.allocation.LeastGap.{heap_tree, bits-le}
@@ -21,11 +18,9 @@ use Rattle.best_fit.proofs.deallocation.Coalescing.{alike, back_parts, begins, f
 use Rattle.best_fit.proofs.deallocation.OneGap.{HasUsed}
 use Rattle.best_fit.proofs.tags.TagsAndLiveSet.{SaysHeap, heap-says}
 use Rattle.best_fit.proofs.allocation.GapToBlock.{lays_out, planted_live}
-use Rattle.best_fit.proofs.gaps.LinksOnly.{SplitsAlike, regrown_block, regrown_keeps, regrown_live}
-use Rattle.best_fit.proofs.gaps.LinksOnly.{tree_says}
+use Rattle.best_fit.proofs.gaps.LinksOnly.{SplitsAlike, regrown_block, regrown_keeps, regrown_live, tree_says}
 use Rattle.best_fit.proofs.in_place_resize.NextGap.{gap_is, joins, t_cell, t_cut_at, t_cuts, t_gaps, t_in, t_joins}
-use Rattle.best_fit.proofs.in_place_resize.NextGap.{t_behind0, t_keeps, t_live}
-use Rattle.best_fit.proofs.in_place_resize.NextGap.{t_says, t_stands1, t_still, t_word}
+use Rattle.best_fit.proofs.in_place_resize.NextGap.{t_behind0, t_keeps, t_live, t_says, t_stands1, t_still, t_word}
 use Rattle.best_fit.proofs.tags.TileRows.{Apart-is_merged, extent_of, gaps_of-used, gaps_of-append}
 use Rattle.best_fit.proofs.tags.UnchangedTags.{In}
 use Rattle.best_fit.proofs.tags.Writes.{Block}

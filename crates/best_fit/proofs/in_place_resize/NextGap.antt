@@ -2,11 +2,10 @@
 use Rattle.best_fit.proofs.Common.{◌≡◌, refl, sym, ap, subst, ◌∙◌, ℕ, ◌+◌, ◌-◌, ◌≤◌, inl, Bool, true, false, List, []}
 use Rattle.best_fit.proofs.Common.{◌∷◌, ◌++◌, length, arith, ◌==◌, IsTrue, Option, Some, None, find, min, eq-eqb}
 use Rattle.best_fit.proofs.Common.{both_ways, WindowState, bytes_of, Role, Tile, current, tile_in, is_free}
-use Rattle.best_fit.proofs.Common.{EncodesTiles, first_in, gap_offset, next_in}
-use Rattle.best_fit.proofs.Common.{HasTileAt, Extent, handle, gap_after, insert, is_extent, others}
-use Rattle.best_fit.proofs.Common.{resized, share, IsHeap, KeepsBlocks, live_of, cut_to, free_behind, free_len}
-use Rattle.best_fit.proofs.Common.{joined_free_at, with_free_behind, word_at, tiles_are_read_off, is_in, Gap}
-use Rattle.best_fit.proofs.Common.{cells_of, payloads, gaps_of, gaps_in, tiles_in, SameBlock}
+use Rattle.best_fit.proofs.Common.{EncodesTiles, first_in, gap_offset, next_in, HasTileAt, Extent, handle, gap_after}
+use Rattle.best_fit.proofs.Common.{insert, is_extent, others, resized, share, IsHeap, KeepsBlocks, live_of, cut_to}
+use Rattle.best_fit.proofs.Common.{free_behind, free_len, joined_free_at, with_free_behind, word_at, tiles_are_read_off}
+use Rattle.best_fit.proofs.Common.{is_in, Gap, cells_of, payloads, gaps_of, gaps_in, tiles_in, SameBlock}
 use Rattle.best_fit.specs.Tiling.{ChangesTags, cut_at}
 use Rattle.best_fit.proofs.tags.RowParts.{Away, apart_back, apart_front, apart_joined, away_front, changed_at-around}
 use Rattle.best_fit.proofs.tags.RowParts.{next_in-around, row_back, row_end, row_reaches}
@@ -21,7 +20,7 @@ use Rattle.best_fit.proofs.tags.TileRows.{extents_of-used, unused-free, used-not
 use Rattle.best_fit.proofs.tags.UnchangedTags.{In, Stays, TagStep, around_keeps, in_back, step_block}
 use Rattle.best_fit.proofs.tags.UnchangedTags.{step_word, tag_step}
 use Rattle.best_fit.proofs.gaps.Nodes.{free_at, in_around}
-use Rattle.best_fit.proofs.gaps.LinksOnly.{step_cell}
+use Rattle.best_fit.proofs.gaps.Setters.{step_cell}
 use Rattle.best_fit.proofs.deallocation.OneGap.{HasUsed, behind_at, in_parts_wide, in_rest, joined_keeps, stands_at}
 use Rattle.best_fit.proofs.deallocation.OneGap.{tile_at_is, used_apart, used_away, used_others, used_said}
 use Rattle.best_fit.proofs.tags.Writes.{Block}

@@ -1,12 +1,9 @@
 -- A block's payload is lent for writing: any write keeps the heap.
-use Rattle.best_fit.proofs.Common.{◌≡◌, refl, sym, ap, subst, ◌∙◌, ℕ, ◌+◌, ◌-◌, ◌≤◌, List, length, arith, IsTrue}
-use Rattle.best_fit.proofs.Common.{Some, None, length_refill, refill, WindowState, HasBytesAt, SameBytesExcept}
-use Rattle.best_fit.proofs.Common.{bytes_of, part, patched}
-use Rattle.best_fit.proofs.Common.{with_bytes, length-part, length-patched, patched-HasBytesAt, patched-SameBytesExcept}
-use Rattle.best_fit.proofs.Common.{refill-all}
-use Rattle.best_fit.proofs.Common.{with_bytes-SameSurroundings, current, HasTileAt}
-use Rattle.best_fit.proofs.Common.{ChangesBytes}
-use Rattle.best_fit.proofs.Common.{Extent, IsHeap, extent_at, is_live_in, live_of, option_map, same_Some}
+use Rattle.best_fit.proofs.Common.{◌≡◌, refl, sym, ap, subst, ◌∙◌, ℕ, ◌+◌, ◌-◌, ◌≤◌, List, length, arith, IsTrue, Some}
+use Rattle.best_fit.proofs.Common.{None, length_refill, refill, WindowState, HasBytesAt, SameBytesExcept, bytes_of}
+use Rattle.best_fit.proofs.Common.{part, patched, with_bytes, length-part, length-patched, patched-HasBytesAt}
+use Rattle.best_fit.proofs.Common.{patched-SameBytesExcept, refill-all, with_bytes-SameSurroundings, current, HasTileAt}
+use Rattle.best_fit.proofs.Common.{ChangesBytes, Extent, IsHeap, extent_at, is_live_in, live_of, option_map, same_Some}
 use Rattle.best_fit.specs.Heap.{LoansWriteOneBlock, payload_len, with_payload}
 use Rattle.best_fit.proofs.tags.Writes.{Block, Room, block_tile, live_block, payload_changed}
 

@@ -8,8 +8,7 @@ use Rattle.block_tags.proofs.Laws.{tiles_fill_the_window}
 use Rattle.best_fit.proofs.extents.Changes.{is_proper-IsProper}
 use Rattle.best_fit.proofs.extents.Gaps.{gap_between-none}
 use Rattle.best_fit.proofs.tags.TileRows.{Row, AreContiguous-Row, Apart, is_merged-Apart, Apart-is_merged, extents_of}
-use Rattle.best_fit.proofs.tags.TileRows.{gaps_from-row}
-use Rattle.best_fit.proofs.tags.TileRows.{proper_from-row, spans_from-row, span_between-none}
+use Rattle.best_fit.proofs.tags.TileRows.{gaps_from-row, proper_from-row, spans_from-row, span_between-none}
 
 -- a legal size, as facts
 pub record IsLegal (n : ℕ) : Type 0 where

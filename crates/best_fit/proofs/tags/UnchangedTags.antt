@@ -2,10 +2,9 @@
 -- header.
 use Rattle.best_fit.proofs.Common.{◌≡◌, refl, sym, ap, subst, ◌∙◌, ℕ, ◌+◌, ◌-◌, ◌%◌, ◌<◌, ◌≤◌, ◌⊎◌, inl, inr, Bool}
 use Rattle.best_fit.proofs.Common.{List, [], ◌∷◌, ◌++◌, length, arith, Some, Option, AllByRecursion, Memory}
-use Rattle.best_fit.proofs.Common.{WindowState}
-use Rattle.best_fit.proofs.Common.{SameBytes, bytes_of, word_at, Role, Tile, current, SameBytes-word, AreTags, tag_word}
-use Rattle.best_fit.proofs.Common.{IsBesideTags, EncodesTiles, SameExceptTags, Extent, handle, end_of, KeepsBlocks}
-use Rattle.best_fit.proofs.Common.{SameBlock, one_tile_at_an_offset, tile_in}
+use Rattle.best_fit.proofs.Common.{WindowState, SameBytes, bytes_of, word_at, Role, Tile, current, SameBytes-word}
+use Rattle.best_fit.proofs.Common.{AreTags, tag_word, IsBesideTags, EncodesTiles, SameExceptTags, Extent, handle}
+use Rattle.best_fit.proofs.Common.{end_of, KeepsBlocks, SameBlock, one_tile_at_an_offset, tile_in}
 use Rattle.best_fit.specs.Tiling.{ChangesTags}
 use Rattle.block_tags.specs.Tiles.{use_bits, red_bit}
 use Rattle.best_fit.proofs.tags.RowParts.{row_reaches}

@@ -1,10 +1,9 @@
 -- The free bytes of gaps made zero, one gap after the other.
-use Rattle.best_fit.proofs.Common.{◌≡◌, refl, sym, ap, subst, ◌∙◌, ℕ, ◌+◌, ◌-◌, ◌/◌, ◌%◌, ◌<◌, ◌≤◌, ◌⊎◌, inl, inr}
-use Rattle.best_fit.proofs.Common.{true, false, List, [], ◌∷◌, ◌++◌, length, append_assoc, arith, ◌==◌, Some}
-use Rattle.best_fit.proofs.Common.{None, is_some, replicate, AllByRecursion, append-nil, none-some, Memory}
-use Rattle.best_fit.proofs.Common.{WindowState, SameBytesExcept, SameSurroundings, bytes_of, patched, word_at}
-use Rattle.best_fit.proofs.Common.{with_bytes, length-patched}
-use Rattle.best_fit.proofs.Common.{SameBytes-word, Role, Tile, current, EncodesTiles}
+use Rattle.best_fit.proofs.Common.{◌≡◌, refl, sym, ap, subst, ◌∙◌, ℕ, ◌+◌, ◌-◌, ◌/◌, ◌%◌, ◌<◌, ◌≤◌, ◌⊎◌, inl, inr, true}
+use Rattle.best_fit.proofs.Common.{false, List, [], ◌∷◌, ◌++◌, length, append_assoc, arith, ◌==◌, Some, None, is_some}
+use Rattle.best_fit.proofs.Common.{replicate, AllByRecursion, append-nil, none-some, Memory, WindowState}
+use Rattle.best_fit.proofs.Common.{SameBytesExcept, SameSurroundings, bytes_of, patched, word_at, with_bytes}
+use Rattle.best_fit.proofs.Common.{length-patched, SameBytes-word, Role, Tile, current, EncodesTiles}
 use Rattle.best_fit.proofs.Common.{one_tile_at_an_offset, payload_may_change, target_of, Gap, cells_of, IsHeap}
 use Rattle.best_fit.proofs.Common.{ZeroesFree, SameBlock, gap_of, gaps_of, tiles_in}
 use Rattle.std.proofs.lemmas.List.{length-replicate}

@@ -1,8 +1,7 @@
 //! Access of a heap's calls to its tiles and to the tree of its gaps. It counts each touch.
-ghost use Rattle.std.specs.Prelude.{◌≡◌, ℕ, ◌+◌, ◌*◌, ◌%◌, ◌^◌, ◌<◌, ◌≤◌, true, Option, Some, None, IfSome, List};
+ghost use Rattle.std.specs.Prelude.{◌≡◌, ◌+◌, ◌*◌, ◌^◌, ◌<◌, ◌≤◌, true, Some, None, IfSome, List};
 ghost use Rattle.std.specs.Prelude.{◌∷◌, ◌++◌, length, filter, is_some, option_map, false};
 ghost use Rattle.raw_region.specs.Memory.{cut_at, whole};
-ghost use Rattle.block_tags.specs.declared.tile.Role.{Role as ARole};
 ghost use Rattle.block_tags.specs.declared.tile.Tile.{Tile as ATile};
 ghost use Rattle.block_tags.specs.Lists.{joined_at, last_in, next_in, previous_in, split_at, tile_in};
 ghost use Rattle.block_tags.specs.Lists.{with_red_at, with_use_at};
@@ -17,7 +16,7 @@ ghost use Rattle.best_fit.specs.FreeTree.{payloads, sorted_gaps};
 ghost use Rattle.best_fit.specs.GapNodes.{gaps_in, is_gap_node, kept_of, own_probe, stands_before};
 ghost use Rattle.best_fit.specs.GapTrees.{HasGapTree, LacksGap, CanBeginRemoval, ChangesGapTree, is_long, node_of};
 ghost use Rattle.best_fit.specs.GapTrees.{root_of_gaps};
-ghost use Rattle.best_fit.specs.Touches.{ReadsOnce, TouchesOnce};
+ghost use Rattle.best_fit.specs.Touches.{ReadsOnce, TouchesMore, TouchesTimes, TouchesSome};
 ghost use Rattle.best_fit.specs.Tiling.{AppendsFree, ChangesTags, DropsLast};
 
 use crate::heap::nodes::{FREE_TREE_ROOT, GapProbe, GapTree, RIGHT_LINK, set_link};
@@ -60,11 +59,10 @@ impl<'a> TouchCounter<'a> {
             → HasGapTree self.old.gaps.now.window (xs ++ g ∷ ys) → HasGapTree self.new.gaps.now.window (xs ++ ys) }
         ensures frame { ChangesGapTree self.old.gaps.now.window self.new.gaps.now.window }
         ensures unchanged { result ≡ None → self.new.gaps.now ≡ self.old.gaps.now }
-        ensures steps_lower { self.old.count ≤ self.new.count }
+        ensures steps_lower { TouchesMore self.old self.new }
         ensures progress { is_some result ≡ true → self.old.count < self.new.count }
         ensures steps { (hs : List Gap) → HasGapTree self.old.gaps.now.window hs
             → self.new.count ≤ self.old.count + 32 * bits (length hs + 1) + 32 }
-        ensures same_borrow { self.new.gaps.ghost_name ≡ self.old.gaps.ghost_name }
     {
         let root = load(&self.gaps.window, FREE_TREE_ROOT);
         let sought = GapProbe {
@@ -86,10 +84,9 @@ impl<'a> TouchCounter<'a> {
         ensures tree { (xs : List Gap) (g : Gap) (ys : List Gap) → node ≡ node_of g
             → HasGapTree self.old.gaps.now.window (xs ++ g ∷ ys) → HasGapTree self.new.gaps.now.window (xs ++ ys) }
         ensures frame { ChangesGapTree self.old.gaps.now.window self.new.gaps.now.window }
-        ensures steps_lower { self.old.count < self.new.count }
+        ensures steps_lower { TouchesSome self.old self.new }
         ensures steps { (hs : List Gap) → HasGapTree self.old.gaps.now.window hs
             → self.new.count ≤ self.old.count + 32 * bits (length hs + 1) + 33 }
-        ensures same_borrow { self.new.gaps.ghost_name ≡ self.old.gaps.ghost_name }
     {
         let root = load(&self.gaps.window, FREE_TREE_ROOT);
         // The gap is the root, as the only gap is, so no search is needed.
@@ -109,10 +106,9 @@ impl<'a> TouchCounter<'a> {
         ensures tree { (xs : List Gap) (g : Gap) (ys : List Gap) → node ≡ node_of g
             → HasGapTree self.old.gaps.now.window (xs ++ g ∷ ys) → HasGapTree self.new.gaps.now.window (xs ++ ys) }
         ensures frame { ChangesGapTree self.old.gaps.now.window self.new.gaps.now.window }
-        ensures steps_lower { self.old.count < self.new.count }
+        ensures steps_lower { TouchesSome self.old self.new }
         ensures steps { (hs : List Gap) → HasGapTree self.old.gaps.now.window hs
             → self.new.count ≤ self.old.count + 32 * bits (length hs + 1) + 33 }
-        ensures same_borrow { self.new.gaps.ghost_name ≡ self.old.gaps.ghost_name }
     {
         let sought = probe_of(&*self.gaps, node);
         let way = way_to(&*self.gaps, root, &sought);
@@ -131,10 +127,9 @@ impl<'a> TouchCounter<'a> {
         ensures tree { (xs : List Gap) (g : Gap) (ys : List Gap) → node ≡ node_of g
             → HasGapTree self.old.gaps.now.window (xs ++ g ∷ ys) → HasGapTree self.new.gaps.now.window (xs ++ ys) }
         ensures frame { ChangesGapTree self.old.gaps.now.window self.new.gaps.now.window }
-        ensures steps_lower { self.old.count < self.new.count }
+        ensures steps_lower { TouchesSome self.old self.new }
         ensures steps { (hs : List Gap) → HasGapTree self.old.gaps.now.window hs
             → self.new.count ≤ self.old.count + 30 * bits (length hs + 1) + 32 }
-        ensures same_borrow { self.new.gaps.ghost_name ≡ self.old.gaps.ghost_name }
     {
         let changed = remove_at(self.gaps, root, exit, node);
         self.count += changed.steps;
@@ -149,11 +144,10 @@ impl<'a> TouchCounter<'a> {
         ensures tree { (xs : List Gap) (g : Gap) (ys : List Gap) → node ≡ node_of g
             → LacksGap self.old.gaps.now.window xs g ys → HasGapTree self.new.gaps.now.window (xs ++ g ∷ ys) }
         ensures frame { ChangesGapTree self.old.gaps.now.window self.new.gaps.now.window }
-        ensures steps_lower { self.old.count < self.new.count }
+        ensures steps_lower { TouchesSome self.old self.new }
         ensures steps { (xs : List Gap) (g : Gap) (ys : List Gap) → node ≡ node_of g
             → LacksGap self.old.gaps.now.window xs g ys
             → self.new.count ≤ self.old.count + 32 * bits (length (xs ++ ys) + 1) + 33 }
-        ensures same_borrow { self.new.gaps.ghost_name ≡ self.old.gaps.ghost_name }
     {
         self.count += 1;
         clear_links(self.gaps, node);
@@ -179,7 +173,7 @@ impl<'a> TouchCounter<'a> {
         requires tile { CanSplit self.old.gaps.now.window at len }
         requires no_overflow { self.old.count + 1 < 2 ^ 64 }
         ensures tags { ChangesTags self.old.gaps.now.window self.new.gaps.now.window (split_at at len) }
-        ensures steps_exact { TouchesOnce self.old self.new }
+        ensures steps_exact { TouchesTimes self.old self.new 1 }
     {
         self.count += 1;
         block_tags::split(&mut self.gaps.window, at, len);
@@ -212,7 +206,7 @@ impl<'a> TouchCounter<'a> {
         requires tile { HasFreeNext self.old.gaps.now.window at }
         requires no_overflow { self.old.count + 1 < 2 ^ 64 }
         ensures tags { ChangesTags self.old.gaps.now.window self.new.gaps.now.window (joined_at at) }
-        ensures steps_exact { TouchesOnce self.old self.new }
+        ensures steps_exact { TouchesTimes self.old self.new 1 }
     {
         self.count += 1;
         block_tags::merge_next(&mut self.gaps.window, at);
@@ -223,7 +217,7 @@ impl<'a> TouchCounter<'a> {
         requires tile { CanTakeUse self.old.gaps.now.window at use_of }
         requires no_overflow { self.old.count + 1 < 2 ^ 64 }
         ensures tags { ChangesTags self.old.gaps.now.window self.new.gaps.now.window (with_use_at at use_of) }
-        ensures steps_exact { TouchesOnce self.old self.new }
+        ensures steps_exact { TouchesTimes self.old self.new 1 }
     {
         self.count += 1;
         block_tags::set_use(&mut self.gaps.window, at, use_of);
@@ -234,7 +228,7 @@ impl<'a> TouchCounter<'a> {
         requires tile { MayHaveColour self.old.gaps.now.window at false }
         requires no_overflow { self.old.count + 1 < 2 ^ 64 }
         ensures tags { ChangesTags self.old.gaps.now.window self.new.gaps.now.window (with_red_at at false) }
-        ensures steps_exact { TouchesOnce self.old self.new }
+        ensures steps_exact { TouchesTimes self.old self.new 1 }
     {
         self.count += 1;
         block_tags::set_red(&mut self.gaps.window, at, false);
@@ -252,8 +246,7 @@ impl<'a> TouchCounter<'a> {
         requires in_bounds { length self.old.gaps.now.window.before + size ≤ length (whole self.old.gaps.now.window) }
         ensures cut { self.new.gaps.now.window
             ≡ cut_at (whole self.old.gaps.now.window) (length self.old.gaps.now.window.before) size }
-        ensures unchanged { self.new.count ≡ self.old.count }
-        ensures same_borrow { self.new.gaps.ghost_name ≡ self.old.gaps.ghost_name }
+        ensures unchanged { TouchesTimes self.old self.new 0 }
     {
         self.gaps.window.resize(size);
     }
@@ -263,7 +256,7 @@ impl<'a> TouchCounter<'a> {
         requires fits { CanAppend self.old.gaps.now.window old_size }
         requires no_overflow { self.old.count + 1 < 2 ^ 64 }
         ensures tags { AppendsFree self.old.gaps.now.window self.new.gaps.now.window old_size }
-        ensures steps_exact { TouchesOnce self.old self.new }
+        ensures steps_exact { TouchesTimes self.old self.new 1 }
     {
         self.count += 1;
         block_tags::append_free(&mut self.gaps.window, old_size);
@@ -285,7 +278,7 @@ impl<'a> TouchCounter<'a> {
         requires tile { HasFreeLast self.old.gaps.now.window }
         requires no_overflow { self.old.count + 1 < 2 ^ 64 }
         ensures tags { DropsLast self.old.gaps.now.window self.new.gaps.now.window result }
-        ensures steps_exact { TouchesOnce self.old self.new }
+        ensures steps_exact { TouchesTimes self.old self.new 1 }
     {
         self.count += 1;
         block_tags::drop_last(&mut self.gaps.window)

@@ -4,9 +4,6 @@ use Rattle.best_fit.proofs.ending.LastBlock.{LongerWindow, longer_window}
 use Rattle.best_fit.proofs.ending.append_block.Goals.{After-resize}
 use Rattle.best_fit.proofs.ending.append_block.Goals as goal
 
-pub resize-requires : goal.resize-requires
-resize-requires c = omega arith
-
 -- the window is longer, and its front describes the tiles
 longer : (c : After-resize) → LongerWindow c.args.touches.now.gaps.now.window c.args.extra c.size-size.result
     c.resize.new.self.gaps.now.window

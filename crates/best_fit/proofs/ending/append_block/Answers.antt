@@ -1,5 +1,4 @@
 -- The window is longer, a free tile is added, and it is allocated.
-use Rattle.best_fit.proofs.Common.{arith}
 use Rattle.best_fit.proofs.ending.LastBlock.{LongerWindow, longer_window}
 use Rattle.best_fit.proofs.ending.append_block.Goals.{After-resize}
 use Rattle.best_fit.proofs.ending.append_block.Goals as goal

@@ -31,15 +31,12 @@ pub use Rattle.offset_link.proofs.Laws.{SameBytesExcept-link}
 pub use Rattle.offset_link.specs.Link.{link_at, target_of}
 pub use Rattle.offset_link.specs.Relinked.{KeepTargets, relinked}
 pub use Rattle.raw_region.proofs.Laws.{SameBytes-refl, SameBytes-trans, SameBytes-word, SameBytesExcept-SameBytes}
-pub use Rattle.raw_region.proofs.Laws.{SameBytesExcept-word, SameSurroundings-trans}
-pub use Rattle.raw_region.proofs.Laws.{length-part, length-patched, part-at, patched-HasBytesAt}
-pub use Rattle.raw_region.proofs.Laws.{patched-SameBytesExcept, read-part}
-pub use Rattle.raw_region.proofs.Laws.{refill-all, whole-cut_at, with_bytes-SameSurroundings}
-pub use Rattle.raw_region.proofs.Laws.{word_written-SameBytesExcept}
+pub use Rattle.raw_region.proofs.Laws.{SameBytesExcept-word, SameSurroundings-trans, length-part, length-patched}
+pub use Rattle.raw_region.proofs.Laws.{part-at, patched-HasBytesAt, patched-SameBytesExcept, read-part, refill-all}
+pub use Rattle.raw_region.proofs.Laws.{whole-cut_at, with_bytes-SameSurroundings, word_written-SameBytesExcept}
 unfoldable pub use Rattle.raw_region.specs.Format.{current}
 pub use Rattle.raw_region.specs.Memory.{WindowState, HasBytesAt, Memory, SameBytes, SameBytesExcept, SameSurroundings}
-pub use Rattle.raw_region.specs.Memory.{bytes_of, part, patched, read}
-pub use Rattle.raw_region.specs.Memory.{whole}
+pub use Rattle.raw_region.specs.Memory.{bytes_of, part, patched, read, whole, AreBytes}
 unfoldable pub use Rattle.raw_region.specs.Memory.{word_at}
 pub use Rattle.raw_region.specs.Regions.{with_bytes}
 pub use Rattle.best_fit.specs.Ends.{AppendsBlock, MovesEnd, KeepsTo, last_end, least_size, of_size}
@@ -50,25 +47,21 @@ pub use Rattle.best_fit.specs.Extents.{is_hole, proper_from, span_between, spans
 unfoldable pub use Rattle.best_fit.specs.Extents.{free_bytes, gaps, is_proper}
 pub use Rattle.best_fit.specs.Fit.{added, insert, is_extent, least, others, precedes, released, resized, room, share}
 unfoldable pub use Rattle.best_fit.specs.Fit.{fit, gap_after, longer, place, regrow, shorter}
-pub use Rattle.best_fit.specs.FreeTree.{IsFreeTree, IsTreeOf, cells_of, insert_gap, is_red, payloads, sorted_gaps}
-pub use Rattle.best_fit.specs.FreeTree.{span}
+pub use Rattle.best_fit.specs.FreeTree.{IsFreeTree, IsTreeOf, cells_of, insert_gap, is_red, payloads, sorted_gaps, span}
 pub use Rattle.best_fit.specs.GapLaws.{GapNode, GapNode-is_gap_node, IsGoodHeap, IsGoodHeap-is_good, cells_at}
 pub use Rattle.best_fit.specs.GapLaws.{is_gap_node-GapNode, is_good-IsGoodHeap, links_at}
 pub use Rattle.best_fit.specs.GapNodes.{GapTreeFrame, as_gap, comes_before, from_first, gap_cells, gap_of, gaps_in}
-pub use Rattle.best_fit.specs.GapNodes.{gaps_of, is_kept}
-pub use Rattle.best_fit.specs.GapNodes.{len_in, lies_behind, own_from, own_probe, links_among, plain, stands_before}
-pub use Rattle.best_fit.specs.GapNodes.{tiles_in}
+pub use Rattle.best_fit.specs.GapNodes.{gaps_of, is_kept, len_in, lies_behind, own_from, own_probe, links_among, plain}
+pub use Rattle.best_fit.specs.GapNodes.{stands_before, tiles_in}
 unfoldable pub use Rattle.best_fit.specs.GapNodes.{is_gap_node, kept_of}
 pub use Rattle.best_fit.specs.GapTrees.{AreSomeGaps, HaveGapLengths, HasGapTree, LacksGap, CanBeginRemoval}
-pub use Rattle.best_fit.specs.GapTrees.{IsUnlinkedGap, ChangesGapTree}
-pub use Rattle.best_fit.specs.GapTrees.{AreAscending, gap_offset}
-pub use Rattle.best_fit.specs.GapTrees.{is_long, node_of, tile_list, offset_of, start_of}
+pub use Rattle.best_fit.specs.GapTrees.{IsUnlinkedGap, ChangesGapTree, AreAscending, gap_offset, is_long, node_of}
+pub use Rattle.best_fit.specs.GapTrees.{tile_list, offset_of, start_of}
 pub use Rattle.best_fit.specs.Heap.{Allocates, AllocatesOk, ChangesBytes, TryExtends, IsHeap, Recolours, Deallocates}
 pub use Rattle.best_fit.specs.Heap.{ResizesBlock, ShrinksInPlace, ZeroesFree, KeepsBlocks, EncodesLiveSet, SameBlock}
 pub use Rattle.best_fit.specs.Heap.{as_extent, extent_at}
 pub use Rattle.best_fit.specs.Heap.{has_room, heap_touches, is_live_in, is_node_in, no_blocks, payload_at}
 unfoldable pub use Rattle.best_fit.specs.Heap.{live_of}
-pub use Rattle.raw_region.specs.Memory.{AreBytes}
 pub use Rattle.best_fit.specs.Resizes.{SplitsBlock}
 pub use Rattle.best_fit.specs.Table.{same_role, serves}
 pub use Rattle.best_fit.specs.Tiling.{cut_to, free_behind, free_len, joined_before, joined_free_at, with_free_behind}

@@ -1,6 +1,6 @@
 -- Trees of gaps while a heap changes: the tree at word 24 contains some of the gaps.
 use Rattle.std.specs.Prelude.{◌≡◌, ℕ, ◌+◌, ◌≤◌, ◌<◌, ◌⊎◌, Bool, true, Option, Some, None, IfSome, if◌then◌else◌, List}
-use Rattle.std.specs.Prelude.{[], ◌∷◌, ◌++◌, length, map, IsTrue, nat_le}
+use Rattle.std.specs.Prelude.{[], ◌∷◌, ◌++◌, length, map, IsTrue, nat_le, unwrap_or}
 use Rattle.std.specs.List.{AllByRecursion}
 use Rattle.raw_region.specs.Memory.{WindowState, SameSurroundings, bytes_of}
 use Rattle.block_tags.specs.declared.tile.Tile.{Tile}
@@ -83,15 +83,14 @@ abbrev pub tile_list : Option Tile → List Tile
 tile_list None = []
 tile_list (Some t) = t ∷ []
 
--- the offset of the previous tile if it is free, and otherwise `at`
-abbrev pub start_of : Option Tile → ℕ → ℕ
-start_of None at = at
-start_of (Some t) at = if is_free t then t.offset else at
-
 -- the offset of a tile, if there is one and it is free
 abbrev pub gap_offset : Option Tile → Option ℕ
 gap_offset None = None
 gap_offset (Some t) = if is_free t then Some t.offset else None
+
+-- the offset of the previous tile if it is free, and otherwise `at`
+abbrev pub start_of : Option Tile → ℕ → ℕ
+start_of before at = unwrap_or (gap_offset before) at
 
 -- the offset of the first gap
 abbrev pub offset_of : List Gap → Option ℕ

@@ -9,6 +9,7 @@ pub mod Lent
 pub mod Resizes
 pub mod Table
 pub mod Tiling
+pub mod Touches
 pub mod Pairs
 pub mod Requests
 pub mod Exchange

@@ -5,14 +5,15 @@ ghost use Rattle.raw_region.specs.Memory.{bytes_of};
 ghost use Rattle.block_tags.specs.declared.tile.Tile.{Tile as ATile};
 ghost use Rattle.raw_region.specs.Format.{current};
 ghost use Rattle.block_tags.specs.Lists.{tile_in};
-ghost use Rattle.block_tags.specs.Windows.{HasTileAt, SameExceptTags, EncodesTiles};
+ghost use Rattle.block_tags.specs.Windows.{HasTileAt, EncodesTiles};
 ghost use Rattle.link_tree.specs.Tree.{bits};
 ghost use Rattle.best_fit.specs.Fit.{added, share};
 ghost use Rattle.best_fit.specs.FreeTree.{is_red};
 ghost use Rattle.best_fit.specs.GapNodes.{gaps_in};
 ghost use Rattle.best_fit.specs.GapTrees.{IsUnlinkedGap};
 ghost use Rattle.best_fit.specs.Heap.{Allocates, IsHeap, KeepsBlocks, EncodesLiveSet, heap_touches, live_of};
-ghost use Rattle.best_fit.specs.Tiling.{cut_at};
+ghost use Rattle.best_fit.specs.Tiling.{ChangesTags, cut_at};
+ghost use Rattle.best_fit.specs.Touches.{TouchesMore, TouchesUpTo};
 
 use crate::heap::touch_counter::TouchCounter;
 use crate::refusal::NoSpace;
@@ -58,8 +59,7 @@ fn take(touches: &mut TouchCounter, at: u64, wanted: u64, role: Role)
         (live_of touches.old.gaps.now.window.bytes).extents }
     ensures steps { touches.new.count ≤ touches.old.count + 32 * bits (length (gaps_in touches.old.gaps.now.window))
         + 37 }
-    ensures steps_lower { touches.old.count ≤ touches.new.count }
-    ensures same_borrow { touches.new.gaps.ghost_name ≡ touches.old.gaps.ghost_name }
+    ensures steps_lower { TouchesMore touches.old touches.new }
 {
     touches.blacken(at);
     let is_cut = split_tail(touches, at, wanted);
@@ -77,15 +77,10 @@ pub fn split_tail(touches: &mut TouchCounter, at: u64, len: u64) -> bool
     requires aligned { len % 16 ≡ 0 }
     requires max_size { len ≤ 1073741856 }
     requires no_overflow { touches.old.count + 2 < 2 ^ 64 }
-    ensures tags { (ts : List ATile) → EncodesTiles touches.old.gaps.now.window ts
-        → EncodesTiles touches.new.gaps.now.window (cut_at at len ts) }
-    ensures frame { (ts : List ATile) → EncodesTiles touches.old.gaps.now.window ts
-        → SameExceptTags touches.old.gaps.now.window touches.new.gaps.now.window ts (cut_at at len ts) }
+    ensures tags { ChangesTags touches.old.gaps.now.window touches.new.gaps.now.window (cut_at at len) }
     ensures cut { (ts : List ATile) (t : ATile) → EncodesTiles touches.old.gaps.now.window ts
         → tile_in ts at ≡ Some t → result ≡ nat_le (len + 32) t.len }
-    ensures steps_upper { touches.new.count ≤ touches.old.count + 2 }
-    ensures steps_lower { touches.old.count ≤ touches.new.count }
-    ensures same_borrow { touches.new.gaps.ghost_name ≡ touches.old.gaps.ghost_name }
+    ensures steps_upper { TouchesUpTo touches.old touches.new 2 }
 {
     let tile = touches.tile_at(at);
     if tile.len >= len + MIN_BLOCK_LEN {

@@ -8,6 +8,7 @@ ghost use Rattle.best_fit.specs.Ends.{AppendsBlock, MovesEnd, least_size};
 ghost use Rattle.best_fit.specs.GapNodes.{gaps_in, gaps_of, tiles_in};
 ghost use Rattle.best_fit.specs.GapTrees.{HasGapTree};
 ghost use Rattle.best_fit.specs.Heap.{IsHeap, heap_touches, live_of};
+ghost use Rattle.best_fit.specs.Touches.{TouchesTimes, TouchesSome};
 
 use crate::deallocation;
 use crate::heap::Heap;
@@ -61,8 +62,7 @@ fn append_block(touches: &mut TouchCounter, extra: u64) -> u64
     ensures position { result + TAG_LEN ≡ length touches.old.gaps.now.window.bytes }
     ensures block { AppendsBlock current touches.old.gaps.now.window touches.new.gaps.now.window extra }
     ensures gaps { gaps_in touches.new.gaps.now.window ≡ gaps_in touches.old.gaps.now.window }
-    ensures steps_exact { touches.new.count ≡ touches.old.count + 2 }
-    ensures same_borrow { touches.new.gaps.ghost_name ≡ touches.old.gaps.ghost_name }
+    ensures steps_exact { TouchesTimes touches.old touches.new 2 }
 {
     let size = touches.size();
     touches.resize(size + extra);
@@ -82,8 +82,7 @@ fn cut_gap(touches: &mut TouchCounter)
         → touches.new.gaps.now.window ≡ touches.old.gaps.now.window }
     ensures steps { touches.new.count
         ≤ touches.old.count + 32 * bits (length (gaps_in touches.old.gaps.now.window) + 1) + 35 }
-    ensures steps_lower { touches.old.count < touches.new.count }
-    ensures same_borrow { touches.new.gaps.ghost_name ≡ touches.old.gaps.ghost_name }
+    ensures steps_lower { TouchesSome touches.old touches.new }
 {
     let last = touches.last();
     if let Some(at) = deallocation::gap_at(last) {
@@ -100,8 +99,7 @@ fn drop_gap(touches: &mut TouchCounter)
     requires no_overflow { touches.old.count + 1 < 2 ^ 64 }
     ensures changes { MovesEnd current touches.old.gaps.now.window touches.new.gaps.now.window
         (least_size (live_of touches.old.gaps.now.window.bytes)) }
-    ensures steps_exact { touches.new.count ≡ touches.old.count + 1 }
-    ensures same_borrow { touches.new.gaps.ghost_name ≡ touches.old.gaps.ghost_name }
+    ensures steps_exact { TouchesTimes touches.old touches.new 1 }
 {
     let size = touches.drop_last();
     touches.resize(size);

@@ -1,6 +1,5 @@
 //! A heap: a window full of blocks and gaps.
-ghost use Rattle.std.specs.Prelude.{◌≡◌, ◌≢◌, ◌-◌, ◌%◌, ◌<◌, ◌+◌, ◌≤◌, IsTrue, List, Option, Some, ℕ, length};
-ghost use Rattle.std.specs.Prelude.{option_map, slice_get};
+ghost use Rattle.std.specs.Prelude.{◌≡◌, ◌≢◌, ◌-◌, ◌%◌, ◌<◌, ◌+◌, IsTrue, List, Some, ℕ, length, option_map, slice_get};
 ghost use Rattle.std.specs.Borrow.{sem};
 ghost use Rattle.raw_region.specs.Memory.{HasBytesAt, bytes_of, read, whole, word_at};
 ghost use Rattle.raw_region.specs.Format.{current};
@@ -236,8 +235,7 @@ impl Heap {
         requires { IsTrue (is_live_in (live_of self.now.bytes) handle) }
         ensures { result.now ≡ payload_at self.now.bytes (live_of self.now.bytes) handle }
     {
-        let len = block_tags::tile_at(&self.gaps.window, handle - TAG_LEN).len;
-        self.gaps.window.bytes(handle, len - TAG_LEN)
+        self.gaps.window.bytes(handle, self.room(handle))
     }
 
     /// Returns the payload of a block, mutably.
@@ -246,8 +244,8 @@ impl Heap {
         ensures* writes_back { sem 𝓛 (LendsBlock self.entry handle result) }
         ensures bytes { result.now ≡ payload_at self.old.bytes (live_of self.old.bytes) handle }
     {
-        let len = block_tags::tile_at(&self.gaps.window, handle - TAG_LEN).len;
-        self.gaps.window.bytes_mut(handle, len - TAG_LEN)
+        let len = self.room(handle);
+        self.gaps.window.bytes_mut(handle, len)
     }
 
     /// Calls `change` with the payloads of two blocks, the first for reading and the second for writing.
@@ -261,18 +259,16 @@ impl Heap {
             (payload_at self.old.bytes (live_of self.old.bytes) second) ws
             × (self.new ≡ with_payload self.old second ws) }
     {
-        let len = block_tags::tile_at(&self.gaps.window, first - TAG_LEN).len;
-        let other = block_tags::tile_at(&self.gaps.window, second - TAG_LEN).len;
-        let size = self.gaps.window.size();
-        let bytes = self.gaps.window.bytes_mut(0, size);
         let a = ByteRange {
             from: first,
-            len: len - TAG_LEN,
+            len: self.room(first),
         };
         let b = ByteRange {
             from: second,
-            len: other - TAG_LEN,
+            len: self.room(second),
         };
+        let size = self.gaps.window.size();
+        let bytes = self.gaps.window.bytes_mut(0, size);
         on_two(bytes, a, b, change);
     }
 

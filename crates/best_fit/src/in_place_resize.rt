@@ -5,6 +5,7 @@ ghost use Rattle.link_tree.specs.Tree.{bits};
 ghost use Rattle.best_fit.specs.GapNodes.{gaps_in};
 ghost use Rattle.best_fit.specs.Heap.{TryExtends, IsHeap, ShrinksInPlace, heap_touches, is_live_in, live_of};
 ghost use Rattle.best_fit.specs.Resizes.{SplitsBlock};
+ghost use Rattle.best_fit.specs.Touches.{TouchesMore};
 
 use crate::allocation::split_tail;
 use crate::deallocation::{coalesce_next, gap_at, next_gap_len, unlink_if_gap};
@@ -85,8 +86,7 @@ pub fn absorb_and_split(touches: &mut TouchCounter, at: u64, wanted: u64)
     ensures cut { SplitsBlock current touches.old.gaps.now.window touches.new.gaps.now.window (at + TAG_LEN) wanted }
     ensures steps { touches.new.count
         ≤ touches.old.count + 64 * bits (length (gaps_in touches.old.gaps.now.window) + 1) + 74 }
-    ensures steps_lower { touches.old.count ≤ touches.new.count }
-    ensures same_borrow { touches.new.gaps.ghost_name ≡ touches.old.gaps.ghost_name }
+    ensures steps_lower { TouchesMore touches.old touches.new }
 {
     let behind = touches.next(at);
     let gap = gap_at(behind);

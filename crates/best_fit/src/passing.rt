@@ -1,8 +1,9 @@
 //! Updates the block hints when a block is freed: its hint moves to the next block.
-ghost use Rattle.std.specs.Prelude.{◌≡◌, ◌≢◌, ℕ, ◌+◌, ◌^◌, ◌<◌, ◌≤◌, IfSome, IsTrue};
+ghost use Rattle.std.specs.Prelude.{◌≡◌, ◌≢◌, ℕ, ◌+◌, ◌^◌, ◌<◌, IfSome, IsTrue};
 ghost use Rattle.raw_region.specs.Format.{current};
 ghost use Rattle.best_fit.specs.Heap.{IsHeap, is_live_in, live_of};
 ghost use Rattle.best_fit.specs.BlockHints.{IsHinted, LeadToBlocks};
+ghost use Rattle.best_fit.specs.Touches.{TouchesUpTo};
 
 use crate::block_hints::BlockHints;
 use crate::heap::touch_counter::TouchCounter;
@@ -18,9 +19,7 @@ pub fn retarget_hint(touches: &mut TouchCounter, hints: &mut BlockHints, handle:
     ensures hints { (h : ℕ) → IsHinted hints.new h
         → (h ≢ handle) × IsTrue (is_live_in (live_of touches.old.gaps.now.window.bytes) h) }
     ensures gaps { touches.new.gaps.now ≡ touches.old.gaps.now }
-    ensures steps_upper { touches.new.count ≤ touches.old.count + 2 }
-    ensures steps_lower { touches.old.count ≤ touches.new.count }
-    ensures same_borrow { touches.new.gaps.ghost_name ≡ touches.old.gaps.ghost_name }
+    ensures steps_upper { TouchesUpTo touches.old touches.new 2 }
 {
     if hints.remove(handle)
         && let Some(behind) = block_behind(touches, handle)
@@ -37,9 +36,7 @@ fn block_behind(touches: &mut TouchCounter, handle: u64) -> Option<u64>
     ensures block { IfSome result (λ h. (h ≢ handle)
         × IsTrue (is_live_in (live_of touches.old.gaps.now.window.bytes) h)) }
     ensures gaps { touches.new.gaps.now ≡ touches.old.gaps.now }
-    ensures steps_upper { touches.new.count ≤ touches.old.count + 2 }
-    ensures steps_lower { touches.old.count ≤ touches.new.count }
-    ensures same_borrow { touches.new.gaps.ghost_name ≡ touches.old.gaps.ghost_name }
+    ensures steps_upper { TouchesUpTo touches.old touches.new 2 }
 {
     let behind = touches.next(handle - TAG_LEN)?;
     if behind.use_of.is_some() {

@@ -4,13 +4,11 @@ use Rattle.best_fit.proofs.Common.{false, List, [], ◌∷◌, ◌++◌, length,
 use Rattle.best_fit.proofs.Common.{Some, None, map, filter, option_map, if◌then◌else◌, cases_Bool, and_from, leb-true}
 use Rattle.best_fit.proofs.Common.{lt-leb, cond-true, cond-false, WindowState, bytes_of, Role, Tile, current, has_tags}
 use Rattle.best_fit.proofs.Common.{EncodesTiles, bits, nodes_of, is_in, leads, all_from, none_some, Extent, Gap}
-use Rattle.best_fit.proofs.Common.{LiveSet}
-use Rattle.best_fit.proofs.Common.{gaps, added, fit, least, place, precedes, room, share, IsTreeOf, cells_of, is_red}
-use Rattle.best_fit.proofs.Common.{payloads, sorted_gaps, gap_of, gaps_of, gaps_in, len_in, links_among, plain}
+use Rattle.best_fit.proofs.Common.{LiveSet, gaps, added, fit, least, place, precedes, room, share, IsTreeOf, cells_of}
+use Rattle.best_fit.proofs.Common.{is_red, payloads, sorted_gaps, gap_of, gaps_of, gaps_in, len_in, links_among, plain}
 use Rattle.best_fit.proofs.Common.{tiles_in, IsGoodHeap, IsGoodHeap-is_good, is_good-IsGoodHeap, AreSomeGaps}
-use Rattle.best_fit.proofs.Common.{HasGapTree}
-use Rattle.best_fit.proofs.Common.{IsUnlinkedGap, ChangesGapTree}
-use Rattle.best_fit.proofs.Common.{is_long, node_of, AllocatesOk, IsHeap, KeepsBlocks, EncodesLiveSet, live_of}
+use Rattle.best_fit.proofs.Common.{HasGapTree, IsUnlinkedGap, ChangesGapTree, is_long, node_of, AllocatesOk, IsHeap}
+use Rattle.best_fit.proofs.Common.{KeepsBlocks, EncodesLiveSet, live_of}
 use Rattle.std.proofs.lemmas.Int.Digits.{all_below_base_digits_of, length-digits_of-le, length-digits_of_step}
 use Rattle.std.proofs.lemmas.Int.Digits.{number_digits_of, number_lt}
 use Rattle.std.specs.Int.Digits.{digits_of}

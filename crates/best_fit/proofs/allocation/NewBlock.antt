@@ -1,12 +1,11 @@
 -- A new block: it has room for the request, it stays new when it is written, and a write to a block keeps the others.
-use Rattle.best_fit.proofs.Common.{◌≡◌, sym, ap, ◌∙◌, ℕ, ◌+◌, ◌-◌, ◌/◌, ◌%◌, ◌≤◌, ◌⊎◌, Bool, true, ◌&&◌, List, []}
-use Rattle.best_fit.proofs.Common.{◌∷◌, arith, ◌==◌, IsTrue, list_any, AllByRecursion, and_parts, and_from, or_cases}
+use Rattle.best_fit.proofs.Common.{◌≡◌, sym, ap, ◌∙◌, ℕ, ◌+◌, ◌-◌, ◌/◌, ◌%◌, ◌≤◌, ◌⊎◌, Bool, true, ◌&&◌, List, [], ◌∷◌}
+use Rattle.best_fit.proofs.Common.{arith, ◌==◌, IsTrue, list_any, AllByRecursion, and_parts, and_from, or_cases}
 use Rattle.best_fit.proofs.Common.{or_left, or_right, eq-eqb, eqb-true, leb-true, le-leb, cases_eq, inl, inr, Memory}
 use Rattle.best_fit.proofs.Common.{WindowState, SameBytesExcept, bytes_of, SameBytesExcept-SameBytes}
-use Rattle.best_fit.proofs.Common.{SameBytesExcept-word, Role, Extent, handle, end_of}
-use Rattle.best_fit.proofs.Common.{holds, proper_from, others, added, released, resized, is_red, live_of, is_live_in}
-use Rattle.best_fit.proofs.Common.{has_room, SameBlock, KeepsBlocks, AllocatesOk, Deallocates, ResizesBlock}
-use Rattle.best_fit.proofs.Common.{ChangesBytes}
+use Rattle.best_fit.proofs.Common.{SameBytesExcept-word, Role, Extent, handle, end_of, holds, proper_from, others}
+use Rattle.best_fit.proofs.Common.{added, released, resized, is_red, live_of, is_live_in, has_room, SameBlock}
+use Rattle.best_fit.proofs.Common.{KeepsBlocks, AllocatesOk, Deallocates, ResizesBlock, ChangesBytes}
 use Rattle.best_fit.proofs.extents.Proper.{IsFirst, proper_from-IsFirst, names, proper_from-names, others-here}
 use Rattle.best_fit.proofs.extents.Proper.{others-past}
 use Rattle.best_fit.proofs.extents.Order.{list_any-insert, list_any-insert_others, others-insert_same}

@@ -1,25 +1,22 @@
 -- A block is freed: its free neighbours leave the tree, and the gap that it forms with them enters the tree.
 use Rattle.best_fit.proofs.Common.{◌≡◌, refl, sym, ap, subst, ◌∙◌, ℕ, ◌+◌, ◌-◌, ◌*◌, ◌≤◌, false, List, [], ◌∷◌, ◌++◌}
-use Rattle.best_fit.proofs.Common.{length, append_assoc, arith, Option, Some, None, map, WindowState, bytes_of, Tile}
-use Rattle.best_fit.proofs.Common.{current, gap_offset, is_free, tile_in, true}
-use Rattle.best_fit.proofs.Common.{first_in, last_in, next_in, previous_in, with_red_at, with_use_at, without_last}
-use Rattle.best_fit.proofs.Common.{HasTileAt, CanTakeUse, MayHaveColour, EncodesTiles, SameExceptTags, IsTree, bits}
-use Rattle.best_fit.proofs.Common.{is_in, tree_same, link_at, target_of, Gap, LiveSet, others, released, IsTreeOf}
-use Rattle.best_fit.proofs.Common.{cells_of, payloads, sorted_gaps, gap_of, gaps_of, gaps_in, plain, tiles_in}
-use Rattle.best_fit.proofs.Common.{HasGapTree, LacksGap, ChangesGapTree, node_of, tile_list, start_of, IsHeap}
-use Rattle.best_fit.proofs.Common.{Deallocates}
-use Rattle.best_fit.proofs.Common.{KeepsBlocks, EncodesLiveSet, live_of, joined_before, joined_free_at}
+use Rattle.best_fit.proofs.Common.{length, append_assoc, arith, None, map, WindowState, bytes_of, Tile, current}
+use Rattle.best_fit.proofs.Common.{gap_offset, first_in, last_in, next_in, previous_in, with_red_at, with_use_at}
+use Rattle.best_fit.proofs.Common.{without_last, EncodesTiles, bits, target_of, Gap, LiveSet, others, released, gap_of}
+use Rattle.best_fit.proofs.Common.{gaps_of, gaps_in, plain, tiles_in, HasGapTree, LacksGap, ChangesGapTree, node_of}
+use Rattle.best_fit.proofs.Common.{tile_list, start_of, IsHeap, Deallocates, KeepsBlocks, EncodesLiveSet, live_of}
+use Rattle.best_fit.proofs.Common.{joined_free_at}
 use Rattle.best_fit.proofs.allocation.LeastGap.{bits-le, heap_tree}
 use Rattle.best_fit.proofs.tags.RowParts.{Away, away_front, next_in-around, previous_in-around}
 use Rattle.best_fit.proofs.tags.Frames.{keeps-others, keeps-trans}
-use Rattle.best_fit.proofs.gaps.Order.{in_sorted}
+use Rattle.best_fit.proofs.gaps.Order.{gap_tree_stays}
 use Rattle.best_fit.proofs.gaps.OneField.{kept_same, same_gaps}
 use Rattle.best_fit.proofs.tags.TileJoins.{rest_of}
-use Rattle.best_fit.proofs.tags.TagsAndLiveSet.{SaysHeap, heap-says, said_row}
-use Rattle.best_fit.proofs.allocation.GapToBlock.{lays_out}
+use Rattle.best_fit.proofs.tags.TagsAndLiveSet.{heap-says, said_row}
+use Rattle.best_fit.proofs.allocation.GapToBlock.{planted_live}
 use Rattle.best_fit.proofs.gaps.LinksOnly.{SplitsAlike, regrown_keeps, regrown_live, splits_alike, tree_says}
-use Rattle.best_fit.proofs.deallocation.OneGap.{Freed, before3, behind2, colour_may, free3, freed, stands2, stands3}
-use Rattle.best_fit.proofs.deallocation.OneGap.{use_may}
+use Rattle.best_fit.proofs.deallocation.OneGap.{Freed, HasUsed, before3, behind2}
+use Rattle.best_fit.specs.Tiling.{ChangesTags}
 use Rattle.best_fit.proofs.free_tree.LinkAndUnlink.{few_bits, lacking_node}
 use Rattle.best_fit.proofs.tags.TileRows.{Apart-is_merged, gaps_of-used, gaps_of-append}
 use Rattle.best_fit.proofs.tags.Writes.{Block}
@@ -104,7 +101,8 @@ pub record GivenBack (w four : WindowState) (at start : ℕ) : Type 0 where
       → Deallocates current w e (at + 16)
 
 module _ (w : WindowState) (at : ℕ) (heap : IsHeap current w.bytes) (b : Block w (at + 16)) where
-  begins : b.tile.offset ≡ at
+  -- the tag of the block is at this offset
+  pub begins : b.tile.offset ≡ at
   begins = let e = b.at in omega arith
 
   away : Away at b.front
@@ -188,160 +186,112 @@ module _ (w : WindowState) (at : ℕ) (heap : IsHeap current w.bytes) (b : Block
   pub few_steps : bits (length (gaps_in w) + 1) ≤ 41
   few_steps = few_bits w (gaps_in w) (heap_tree w heap)
 
+  -- the tiles after a change of the tree of gaps
+  pub alike : (d : WindowState) → ChangesGapTree w d → SplitsAlike (tiles_in d) b.front b.tile b.back
+  alike d r = splits_alike (tiles_in d) b.front b.tile b.back (r.tiles ∙ ap (λ (ts : List Tile). map plain ts) b.list)
+
+  -- the block is there after a change of the tree of gaps
+  abbrev pub used_in : (d : WindowState) (hs : List Gap) → HasGapTree d hs → ChangesGapTree w d → HasUsed d at
+  used_in d hs h r = record {
+    says = tree_says d hs h;
+    front = (alike d r).front';
+    tile = (alike d r).tile';
+    back = (alike d r).back';
+    role = b.role;
+    list = (alike d r).list;
+    in_use = ap (λ (t : Tile). t.use_of) (alike d r).tiles ∙ b.in_use;
+    at = ap (λ (t : Tile). t.offset) (alike d r).tiles ∙ begins;
+  }
+
   module _ (d : WindowState) (h : HasGapTree d (init ++ tail)) (r : ChangesGapTree w d) where
-    s : SplitsAlike (tiles_in d) b.front b.tile b.back
-    s = splits_alike (tiles_in d) b.front b.tile b.back (r.tiles ∙ ap (λ (ts : List Tile). map plain ts) b.list)
+    abbrev s : SplitsAlike (tiles_in d) b.front b.tile b.back
+    s = alike d r
 
-    says_d : SaysHeap d (tiles_in d)
-    says_d = tree_says d (init ++ tail) h
-
-    used_d : s.tile'.use_of ≡ Some b.role
-    used_d = ap (λ (t : Tile). t.use_of) s.tiles ∙ b.in_use
-
-    begins_d : s.tile'.offset ≡ at
-    begins_d = ap (λ (t : Tile). t.offset) s.tiles ∙ begins
-
-    same_gaps_d : init ++ tail ≡ gaps_of (without_last s.front') ++ gaps_of (rest_of s.back')
-    same_gaps_d = sym (ap (λ (hs : List Gap). hs ++ gaps_of (rest_of s.back')) (same_init b.front s.front' s.fronts)
-        ∙ ap (λ (hs : List Gap). init ++ hs) (same_rest b.back s.back' s.backs))
+    -- the block with its neighbours out of the tree
+    abbrev pub alone : HasUsed d at
+    alone = used_in d (init ++ tail) h r
 
     tree_d : HasGapTree d (gaps_of (without_last s.front') ++ gaps_of (rest_of s.back'))
-    tree_d = subst (λ (hs : List Gap). HasGapTree d hs) same_gaps_d h
+    tree_d = subst (λ (hs : List Gap). HasGapTree d hs)
+        (sym (ap (λ (hs : List Gap). hs ++ gaps_of (rest_of s.back')) (same_init b.front s.front' s.fronts)
+        ∙ ap (λ (hs : List Gap). init ++ hs) (same_rest b.back s.back' s.backs))) h
 
-    -- the gap keeps a legal colour
-    pub r_colour : MayHaveColour d at false
-    r_colour = colour_may d says_d at s.front' s.tile' s.back' b.role s.list used_d begins_d
+    module _ {one two : WindowState} (paint : ChangesTags d one (with_red_at at false))
+        (change : ChangesTags one two (with_use_at at None)) where
+      -- the gap after it is where it was read
+      pub r_behind2 : (ts : List Tile) → EncodesTiles two ts → gap_offset (next_in ts at) ≡ gap_offset (first_in b.back)
+      r_behind2 ts said = behind2 alone paint change ts said ∙ first-plain b.back s.back' s.backs
 
-    module _ (one : WindowState) (paint : (ts : List Tile) → EncodesTiles d ts
-        → EncodesTiles one (with_red_at at false ts))
-        (paint_same : (ts : List Tile) → EncodesTiles d ts → SameExceptTags d one ts (with_red_at at false ts)) where
-      pub r_use : CanTakeUse one at None
-      r_use = use_may d says_d at s.front' s.tile' s.back' b.role s.list used_d begins_d one paint paint_same
+      module _ {three : WindowState} (join : ChangesTags two three (joined_free_at at)) where
+        -- and the gap before it is where it was read
+        pub r_before3 : (ts : List Tile) → EncodesTiles three ts
+            → gap_offset (previous_in ts at) ≡ gap_offset (last_in b.front)
+        r_before3 ts said = before3 alone paint change join ts said ∙ last-plain b.front s.front' s.fronts
 
-      module _ (two : WindowState) (change : (ts : List Tile) → EncodesTiles one ts
-          → EncodesTiles two (with_use_at at None ts))
-          (change_same : (ts : List Tile) → EncodesTiles one ts
-          → SameExceptTags one two ts (with_use_at at None ts)) where
-        pub r_stands2 : HasTileAt two at
-        r_stands2 = stands2 d says_d at s.front' s.tile' s.back' b.role s.list used_d begins_d one paint
-            paint_same two change change_same
+    module _ {four : WindowState} (f : Freed d four at s.front' s.back') where
+      xs : List Gap
+      xs = gaps_of (without_last s.front')
 
-        -- the gap after it is where it was read
-        pub r_behind2 : (ts : List Tile) → EncodesTiles two ts
-            → gap_offset (next_in ts at) ≡ gap_offset (first_in b.back)
-        r_behind2 ts said = behind2 d says_d at s.front' s.tile' s.back' b.role s.list used_d begins_d one paint
-            paint_same two change change_same ts said ∙ first-plain b.back s.back' s.backs
+      ys : List Gap
+      ys = gaps_of (rest_of s.back')
 
-        module _ (three : WindowState) (join : (ts : List Tile) → EncodesTiles two ts
-            → EncodesTiles three (joined_free_at at ts))
-            (join_same : (ts : List Tile) → EncodesTiles two ts
-            → SameExceptTags two three ts (joined_free_at at ts)) where
-          pub r_stands3 : HasTileAt three at
-          r_stands3 = stands3 d says_d at s.front' s.tile' s.back' b.role s.list used_d begins_d one paint paint_same
-              two change change_same three join join_same
+      new_node : start_of (last_in b.front) at + 16 ≡ node_of (gap_of f.whole)
+      new_node = ap (λ k. k + 16) (sym (f.start ∙ same_start b.front s.front' at s.fronts))
 
-          -- the tile is free now
-          pub r_free3 : (ts : List Tile) (t : Tile) → EncodesTiles three ts → tile_in ts at ≡ Some t → is_free t ≡ true
-          r_free3 = free3 d says_d at s.front' s.tile' s.back' b.role s.list used_d begins_d one paint paint_same
-              two change change_same three join join_same
+      lacks : LacksGap four xs (gap_of f.whole) ys
+      unfolding xs ys
+      lacks = record {
+        said = f.says.said;
+        merged = Apart-is_merged false (tiles_in four) f.says.apart;
+        gaps = f.gaps;
+        tree = gap_tree_stays (bytes_of d.bytes) (bytes_of four.bytes)
+            (gaps_of (without_last s.front') ++ gaps_of (rest_of s.back'))
+            (ap (target_of 24) f.word) f.cell tree_d.tree;
+      }
 
-          -- and the gap before it is where it was read
-          pub r_before3 : (ts : List Tile) → EncodesTiles three ts
-              → gap_offset (previous_in ts at) ≡ gap_offset (last_in b.front)
-          r_before3 ts said = before3 d says_d at s.front' s.tile' s.back' b.role s.list used_d begins_d one paint
-              paint_same two change change_same three join join_same ts said ∙ last-plain b.front s.front' s.fronts
+      start_small : start_of (last_in b.front) at + 16 ≤ 1073741824
+      start_small =
+          let n = lacking_node four xs (gap_of f.whole) ys (start_of (last_in b.front) at + 16) new_node lacks in
+          let long = n.long in let ends = n.ends in let size = n.size in omega arith
 
-          module _ (four : WindowState) (last_join : (ts : List Tile) → EncodesTiles three ts
-              → EncodesTiles four (joined_before at ts)) (last_same : (ts : List Tile) → EncodesTiles three ts
-              → SameExceptTags three four ts (joined_before at ts)) where
-            f : Freed d four at s.front' s.back'
-            f = freed d says_d at s.front' s.tile' s.back' b.role s.list used_d begins_d one paint paint_same two
-                change change_same three join join_same four last_join last_same
+      few_left : length (xs ++ ys) ≤ length (gaps_in w)
+      unfolding xs ys
+      few_left =
+          let few = tree_d.some.few in
+          let same : length (gaps_in d) ≡ length (gaps_in w) = ap (λ (hs : List Gap). length hs)
+          (same_gaps (tiles_in w) (tiles_in d) r.tiles) in
+          omega arith
 
-            xs : List Gap
-            xs = gaps_of (without_last s.front')
+      module _ (e : WindowState) (planted : HasGapTree e (xs ++ (gap_of f.whole ∷ ys)))
+          (regrown : ChangesGapTree four e) where
+        live_four : live_of four.bytes ≡ released (live_of w.bytes) (at + 16)
+        live_four = f.live ∙ ap (λ (l : LiveSet). released l (at + 16)) (regrown_live w d r)
 
-            ys : List Gap
-            ys = gaps_of (rest_of s.back')
-
-            new_node : start_of (last_in b.front) at + 16 ≡ node_of (gap_of f.whole)
-            new_node = ap (λ k. k + 16) (sym (f.start ∙ same_start b.front s.front' at s.fronts))
-
-            lacks : LacksGap four xs (gap_of f.whole) ys
-            unfolding xs ys
-            lacks =
-                let hs = gaps_of (without_last s.front') ++ gaps_of (rest_of s.back') in
-                let root : link_at (bytes_of four.bytes) 24 ≡ link_at (bytes_of d.bytes) 24 =
-                ap (target_of 24) f.word in
-                let old = tree_d.tree in
-                record {
-                  said = f.says.said;
-                  merged = Apart-is_merged false (tiles_in four) f.says.apart;
-                  gaps = f.gaps;
-                  tree = record {
-                    tree = old.tree;
-                    linked = subst (λ (l : Option ℕ). IsTree (cells_of (bytes_of four.bytes)) l old.tree) (sym root)
-                        (tree_same (cells_of (bytes_of d.bytes)) (cells_of (bytes_of four.bytes))
-                        (link_at (bytes_of d.bytes) 24) old.tree
-                        (λ m i. f.cell m (sym (in_sorted m hs) ∙ ap (λ (ns : List ℕ). is_in m ns) (sym old.lists)
-                        ∙ i)) old.linked);
-                    red_black = old.red_black;
-                    lists = old.lists;
-                  };
-                }
-
-            start_small : start_of (last_in b.front) at + 16 ≤ 1073741824
-            start_small =
-                let n = lacking_node four xs (gap_of f.whole) ys (start_of (last_in b.front) at + 16) new_node lacks in
-                let long = n.long in let ends = n.ends in let size = n.size in omega arith
-
-            few_left : length (xs ++ ys) ≤ length (gaps_in w)
-            unfolding xs ys
-            few_left =
-                let few = tree_d.some.few in
-                let same : length (gaps_in d) ≡ length (gaps_in w) = ap (λ (hs : List Gap). length hs)
-                (same_gaps (tiles_in w) (tiles_in d) r.tiles) in
-                omega arith
-
-            module _ (e : WindowState) (planted : HasGapTree e (xs ++ (gap_of f.whole ∷ ys)))
-                (regrown : ChangesGapTree four e) where
-              says_e : SaysHeap e (tiles_in e)
-              says_e = tree_says e (xs ++ (gap_of f.whole ∷ ys)) planted
-
-              gaps_e : gaps_in e ≡ xs ++ (gap_of f.whole ∷ ys)
-              gaps_e = same_gaps (tiles_in four) (tiles_in e) regrown.tiles ∙ lacks.gaps
-
-              live_four : live_of four.bytes ≡ released (live_of w.bytes) (at + 16)
-              live_four = f.live ∙ ap (λ (l : LiveSet). released l (at + 16)) (regrown_live w d r)
-
-              released_block : Deallocates current w e (at + 16)
-              released_block =
-                  let xs_ = (live_of w.bytes).extents in
-                  let first_keeps = keeps-others w d (at + 16) xs_
-                  (regrown_keeps w d (heap-says w heap).said says_d.said r) in
-                  let second_keeps : KeepsBlocks d four (others (at + 16) xs_) =
-                  subst (λ (l : LiveSet). KeepsBlocks d four (others (at + 16) l.extents)) (regrown_live w d r)
-                  f.keeps in
-                  let third_keeps : KeepsBlocks four e (others (at + 16) xs_) =
-                  subst (λ (l : LiveSet). KeepsBlocks four e l.extents) live_four
-                  (regrown_keeps four e f.says.said says_e.said regrown) in
-                  record {
-                    live = subst (EncodesLiveSet current e.bytes) (regrown_live four e regrown ∙ live_four)
-                        (lays_out e says_e
-                        (subst (λ (hs : List Gap). IsTreeOf (bytes_of e.bytes) 24 (payloads (sorted_gaps hs)))
-                        (sym gaps_e) planted.tree));
-                    keeps = keeps-trans w four e (others (at + 16) xs_)
-                        (keeps-trans w d four (others (at + 16) xs_) first_keeps second_keeps) third_keeps;
-                  }
-
-            pub given_back : GivenBack w four at (start_of (last_in b.front) at)
-            given_back = record {
-              front = xs;
-              gap = gap_of f.whole;
-              back = ys;
-              node = new_node;
-              lacks = lacks;
-              small = start_small;
-              few = few_left;
-              released = released_block;
+        released_block : Deallocates current w e (at + 16)
+        released_block =
+            let others_w = others (at + 16) (live_of w.bytes).extents in
+            let first_keeps = keeps-others w d (at + 16) (live_of w.bytes).extents
+            (regrown_keeps w d (heap-says w heap).said (tree_says d (init ++ tail) h).said r) in
+            let second_keeps : KeepsBlocks d four others_w =
+            subst (λ (l : LiveSet). KeepsBlocks d four (others (at + 16) l.extents)) (regrown_live w d r) f.keeps in
+            let third_keeps : KeepsBlocks four e others_w =
+            subst (λ (l : LiveSet). KeepsBlocks four e l.extents) live_four
+            (regrown_keeps four e f.says.said (tree_says e (xs ++ (gap_of f.whole ∷ ys)) planted).said regrown) in
+            record {
+              live = subst (EncodesLiveSet current e.bytes) live_four
+                  (planted_live four e (xs ++ (gap_of f.whole ∷ ys)) lacks.gaps planted regrown);
+              keeps = keeps-trans w four e others_w (keeps-trans w d four others_w first_keeps second_keeps)
+                  third_keeps;
             }
+
+      pub given_back : GivenBack w four at (start_of (last_in b.front) at)
+      given_back = record {
+        front = xs;
+        gap = gap_of f.whole;
+        back = ys;
+        node = new_node;
+        lacks = lacks;
+        small = start_small;
+        few = few_left;
+        released = released_block;
+      }

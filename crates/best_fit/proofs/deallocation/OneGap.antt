@@ -1,29 +1,26 @@
 -- A block that is freed becomes one gap with the gaps before and after it.
-use Rattle.best_fit.proofs.Common.{◌≡◌, refl, sym, ap, subst, ◌∙◌, ℕ, ◌+◌, ◌-◌, Bool, true, false, List, [], ◌∷◌}
-use Rattle.best_fit.proofs.Common.{◌++◌, length, append_assoc, if◌then◌else◌, inl, inr, ◌⊎◌, Option, Some, None}
-use Rattle.best_fit.proofs.Common.{both_ways, cond-true, cond-false, WindowState, Role, Tile, previous_in, last_in}
-use Rattle.best_fit.proofs.Common.{first_in, gap_offset, next_in, same_Some, tile_in}
-use Rattle.best_fit.proofs.Common.{with_use_at, with_red_at, used_for, of_colour, is_free, EncodesTiles, SameExceptTags}
-use Rattle.best_fit.proofs.Common.{HasTileAt, CanTakeUse, MayHaveColour, Extent, others, released, KeepsBlocks, live_of}
-use Rattle.best_fit.proofs.Common.{joined_before, joined_free_at, with_free_behind, cons_option, bytes_of, word_at}
-use Rattle.best_fit.proofs.Common.{without_last, tiles_are_read_off, is_in, Gap, cells_of, payloads, as_gap, gap_of}
-use Rattle.best_fit.proofs.Common.{gaps_of, gaps_in, tiles_in, start_of}
+use Rattle.best_fit.proofs.Common.{◌≡◌, refl, sym, ap, subst, ◌∙◌, ℕ, ◌+◌, ◌-◌, Bool, true, false, List, [], ◌∷◌, ◌++◌}
+use Rattle.best_fit.proofs.Common.{length, append_assoc, if◌then◌else◌, inl, inr, ◌⊎◌, Option, Some, None, both_ways}
+use Rattle.best_fit.proofs.Common.{cond-true, cond-false, WindowState, Role, Tile, previous_in, last_in, first_in}
+use Rattle.best_fit.proofs.Common.{gap_offset, next_in, same_Some, tile_in, with_use_at, with_red_at, used_for}
+use Rattle.best_fit.proofs.Common.{of_colour, is_free, EncodesTiles, HasTileAt, CanTakeUse, MayHaveColour, Extent}
+use Rattle.best_fit.proofs.Common.{others, released, KeepsBlocks, live_of, joined_before, joined_free_at}
+use Rattle.best_fit.proofs.Common.{with_free_behind, cons_option, bytes_of, word_at, without_last, tiles_are_read_off}
+use Rattle.best_fit.proofs.Common.{is_in, Gap, cells_of, payloads, as_gap, gap_of, gaps_of, gaps_in, tiles_in, start_of}
 use Rattle.best_fit.proofs.tags.RowParts.{Away, last_in-EndsWith, is_free_option, last_free-last_in, apart_back}
-use Rattle.best_fit.proofs.tags.RowParts.{apart_front}
-use Rattle.best_fit.proofs.tags.RowParts.{apart_joined, away_front, changed_at-around, last_free, next_in-around}
-use Rattle.best_fit.proofs.tags.RowParts.{previous_in-around}
-use Rattle.best_fit.proofs.tags.RowParts.{tile_in-around}
+use Rattle.best_fit.proofs.tags.RowParts.{apart_front, apart_joined, away_front, changed_at-around, last_free}
+use Rattle.best_fit.proofs.tags.RowParts.{next_in-around, previous_in-around, tile_in-around}
 use Rattle.best_fit.proofs.tags.Frames.{keeps-trans}
 use Rattle.best_fit.proofs.tags.TileJoins.{JoinsTo, joins_to, extents_of-around, extents_of-around_free, others_between}
 use Rattle.best_fit.proofs.tags.TileJoins.{rest_of}
-use Rattle.best_fit.proofs.tags.TagsAndLiveSet.{SaysHeap, said_row}
+use Rattle.best_fit.specs.Tiling.{ChangesTags}
+use Rattle.std.specs.Prelude.{unwrap_or}
+use Rattle.best_fit.proofs.tags.TagsAndLiveSet.{SaysHeap, said_row, says_of}
 use Rattle.best_fit.proofs.tags.TileRows.{Apart, extents_of, extent_of, free-unused, gaps_of-append, unused, used}
-use Rattle.best_fit.proofs.tags.TileRows.{use_cases}
-use Rattle.best_fit.proofs.tags.TileRows.{unused-free, gaps_of-free, gaps_of-used}
-use Rattle.best_fit.proofs.tags.UnchangedTags.{around_keeps, step_word, In, in_back, in_front}
-use Rattle.best_fit.proofs.gaps.Nodes.{free_at, in_around, row_lies}
-use Rattle.best_fit.proofs.allocation.GapToBlock.{in_stands}
-use Rattle.best_fit.proofs.gaps.LinksOnly.{step_cell}
+use Rattle.best_fit.proofs.tags.TileRows.{use_cases, unused-free, gaps_of-free, gaps_of-used}
+use Rattle.best_fit.proofs.tags.UnchangedTags.{In, TagStep, around_keeps, in_back, in_front, step_word, tag_step}
+use Rattle.best_fit.proofs.gaps.Nodes.{free_at, in_around}
+use Rattle.best_fit.proofs.gaps.Setters.{step_cell}
 
 -- ---- a free tile that is joined with the one before it
 
@@ -49,7 +46,7 @@ without_last-append (t ∷ u ∷ ts) p = ap (λ (us : List Tile). t ∷ us) (wit
 
 start_used : (o : Option Tile) (at : ℕ) → is_free_option o ≡ false → at ≡ start_of o at
 start_used None at e = refl
-start_used (Some t) at e = sym (cond-false (is_free t) t.offset at e)
+start_used (Some t) at e = sym (ap (λ (o : Option ℕ). unwrap_or o at) (cond-false (is_free t) (Some t.offset) None e))
 
 pub record Ended (mid : WindowState) (front : List Tile) (x : Tile) (left : List Tile) : Type 0 where
   pub list : List Tile
@@ -63,7 +60,7 @@ pub record Ended (mid : WindowState) (front : List Tile) (x : Tile) (left : List
   pub gaps0 : gaps_of front0 ≡ gaps_of (without_last front)
   pub init_in : (u : Tile) → In u (without_last front) → In u front0
   pub start : whole.offset ≡ start_of (last_in front) x.offset
-  pub keeps : (new : WindowState) → EncodesTiles new list → SameExceptTags mid new (front ++ (x ∷ left)) list
+  pub keeps : (new : WindowState) → TagStep mid new (front ++ (x ∷ left)) list
       → KeepsBlocks mid new (extents_of front ++ extents_of left)
 
 module _ (mid : WindowState) (front : List Tile) (x : Tile) (left : List Tile)
@@ -106,7 +103,7 @@ module _ (mid : WindowState) (front : List Tile) (x : Tile) (left : List Tile)
         gaps0 = gaps-last_used front no_free;
         init_in = λ u i. in-without_last u front i;
         start = start_used (last_in front) x.offset (sym (last_free-last_in front) ∙ no_free);
-        keeps = λ new says same. around_keeps mid new front (x ∷ []) (x ∷ []) left said says same;
+        keeps = λ new s. around_keeps front (x ∷ []) (x ∷ []) left s;
       }
 
   goes : (p : Tile) → is_free p ≡ true → last_in front ≡ Some p → joined_before x.offset (front ++ (x ∷ left))
@@ -144,10 +141,10 @@ module _ (mid : WindowState) (front : List Tile) (x : Tile) (left : List Tile)
         init_in = λ u i. subst (λ (us : List Tile). In u us) (ap without_last ends.list
             ∙ without_last-append ends.front p) i;
         start = sym (ap (λ (o : Option Tile). start_of o x.offset) last
-            ∙ cond-true (is_free p) p.offset x.offset p_free);
-        keeps = λ new says same. subst (λ (xs : List Extent). KeepsBlocks mid new (xs ++ extents_of left)) (sym extents)
-            (around_keeps mid new ends.front (p ∷ x ∷ []) (whole ∷ []) left said' says
-            (subst (λ (ts : List Tile). SameExceptTags mid new ts (ends.front ++ (whole ∷ left))) list same));
+            ∙ ap (λ (o : Option ℕ). unwrap_or o x.offset) (cond-true (is_free p) (Some p.offset) None p_free));
+        keeps = λ new s. subst (λ (xs : List Extent). KeepsBlocks mid new (xs ++ extents_of left)) (sym extents)
+            (around_keeps ends.front (p ∷ x ∷ []) (whole ∷ []) left
+            (subst (λ (ts : List Tile). TagStep mid new ts (ends.front ++ (whole ∷ left))) list s));
       }
     where
       append-none : (xs : List Extent) → xs ≡ xs ++ []
@@ -208,267 +205,214 @@ pub record Freed (old new : WindowState) (at : ℕ) (front0 back0 : List Tile) :
   pub cell : (m : ℕ) → is_in m (payloads (gaps_of (without_last front0) ++ gaps_of (rest_of back0))) ≡ true
       → cells_of (bytes_of new.bytes) m ≡ cells_of (bytes_of old.bytes) m
 
-module _ (old : WindowState) (says : SaysHeap old (tiles_in old)) (at : ℕ) (front0 : List Tile) (tile0 : Tile)
-    (back0 : List Tile) (role : Role) (list0 : tiles_in old ≡ front0 ++ (tile0 ∷ back0))
-    (in_use : tile0.use_of ≡ Some role) (o : tile0.offset ≡ at) where
-  said0 : EncodesTiles old (front0 ++ (tile0 ∷ back0))
-  said0 = subst (EncodesTiles old) list0 says.said
+-- a window with good tags, and its tile in use at an offset
+pub record HasUsed (c : WindowState) (place : ℕ) : Type 0 where
+  pub says : SaysHeap c (tiles_in c)
+  pub front : List Tile
+  pub tile : Tile
+  pub back : List Tile
+  pub role : Role
+  pub list : tiles_in c ≡ front ++ (tile ∷ back)
+  pub in_use : tile.use_of ≡ Some role
+  pub at : tile.offset ≡ place
+
+-- the blocks around two tiles that are joined stay
+pub joined_keeps : {old new : WindowState} (front : List Tile) (x y : Tile) (back : List Tile) (j : JoinsTo x back)
+    → TagStep old new (front ++ (x ∷ back)) (front ++ (y ∷ j.left))
+    → KeepsBlocks old new (extents_of front ++ extents_of back)
+joined_keeps {old} {new} front x y back j s =
+    subst (KeepsBlocks old new) (ap (λ xs. extents_of front ++ xs) (sym j.extents))
+    (around_keeps front (x ∷ j.gone) (y ∷ []) j.left
+    (subst (λ (ts : List Tile). TagStep old new (front ++ (x ∷ ts)) (front ++ (y ∷ j.left))) j.list s))
+
+-- what the tags say of a tile at an offset at which no tile before it begins
+module _ {c : WindowState} {at : ℕ} (front : List Tile) (away : Away at front) (t : Tile) (back : List Tile)
+    (o : t.offset ≡ at) (told : EncodesTiles c (front ++ (t ∷ back))) where
+  -- the tile is the one at its offset in each list of the tags
+  pub tile_at_is : (ts : List Tile) → EncodesTiles c ts → tile_in ts at ≡ Some t
+  tile_at_is ts said = ap (λ (us : List Tile). tile_in us at) (one_list c ts (front ++ (t ∷ back)) said told)
+      ∙ tile_in-around at t back o front away
+
+  -- a tile is at this offset
+  pub stands_at : HasTileAt c at
+  stands_at = record {
+    tiles = front ++ (t ∷ back);
+    said = told;
+    tile = t;
+    stands = tile_in-around at t back o front away;
+  }
+
+  -- the gap after it is the first tile behind
+  pub behind_at : (ts : List Tile) → EncodesTiles c ts → gap_offset (next_in ts at) ≡ gap_offset (first_in back)
+  behind_at ts said =
+      ap (λ (us : List Tile). gap_offset (next_in us at)) (one_list c ts (front ++ (t ∷ back)) said told)
+      ∙ ap gap_offset (next_in-around at t back o front away)
+
+module _ {old : WindowState} {at : ℕ} (p : HasUsed old at) where
+  -- the tags describe the tile between the others
+  pub used_said : EncodesTiles old (p.front ++ (p.tile ∷ p.back))
+  used_said = subst (EncodesTiles old) p.list p.says.said
+
+  -- no two free tiles are neighbours
+  pub used_apart : Apart false (p.front ++ (p.tile ∷ p.back))
+  used_apart = subst (Apart false) p.list p.says.apart
+
+  -- no tile before it begins where it does
+  pub used_away : Away at p.front
+  used_away = subst (λ k. Away k p.front) p.at (away_front 128 p.front p.tile p.back (length old.bytes - 16)
+      (said_row old (p.front ++ (p.tile ∷ p.back)) used_said))
+
+  -- the other blocks are those of the tiles before and after it
+  pub used_others : others (at + 16) (live_of old.bytes).extents ≡ extents_of p.front ++ extents_of p.back
+  unfolding live_of
+  used_others =
+      ap (others (at + 16)) (ap extents_of p.list ∙ extents_of-around p.front p.tile p.back p.role p.in_use)
+      ∙ others_between 128 p.front p.tile p.back (length old.bytes - 16) (extent_of p.tile p.role) (at + 16)
+      (said_row old (p.front ++ (p.tile ∷ p.back)) used_said) refl (ap (λ k. k + 16) p.at)
 
   abbrev black : Tile
-  black = record tile0 { red = false }
+  black = record p.tile { red = false }
 
   abbrev unused_tile : Tile
-  unused_tile = record black { use_of = None }
+  unused_tile = record p.tile { red = false; use_of = None }
 
-  joins : JoinsTo (record tile0 { red = false; use_of = None }) back0
-  joins = joins_to (record tile0 { red = false; use_of = None }) back0
-
-  away0 : Away at front0
-  away0 = subst (λ k. Away k front0) o (away_front 128 front0 tile0 back0 (length old.bytes - 16)
-      (said_row old (front0 ++ (tile0 ∷ back0)) said0))
+  joins : JoinsTo (record p.tile { red = false; use_of = None }) p.back
+  joins = joins_to (record p.tile { red = false; use_of = None }) p.back
 
   -- any tile can be black
   pub colour_may : MayHaveColour old at false
-  colour_may =
-      record {
-        tiles = front0 ++ (tile0 ∷ back0);
-        said = said0;
-        tile = tile0;
-        stands = tile_in-around at tile0 back0 o front0 away0;
-        colour = refl;
-      }
+  colour_may = record {
+    tiles = p.front ++ (p.tile ∷ p.back);
+    said = used_said;
+    tile = p.tile;
+    stands = tile_in-around at p.tile p.back p.at p.front used_away;
+    colour = refl;
+  }
 
-  module _ (one : WindowState) (paint : (ts : List Tile) → EncodesTiles old ts
-      → EncodesTiles one (with_red_at at false ts))
-      (paint_same : (ts : List Tile) → EncodesTiles old ts → SameExceptTags old one ts (with_red_at at false ts)) where
-    list1 : with_red_at at false (front0 ++ (tile0 ∷ back0)) ≡ front0 ++ (black ∷ back0)
-    list1 = changed_at-around at tile0 back0 o (of_colour false) front0 away0
-
-    said1 : EncodesTiles one (front0 ++ (black ∷ back0))
-    said1 = subst (EncodesTiles one) list1 (paint (front0 ++ (tile0 ∷ back0)) said0)
-
-    same1 : SameExceptTags old one (front0 ++ (tile0 ∷ back0)) (front0 ++ (black ∷ back0))
-    same1 = subst (SameExceptTags old one (front0 ++ (tile0 ∷ back0))) list1
-        (paint_same (front0 ++ (tile0 ∷ back0)) said0)
+  module _ {one : WindowState} (paint : ChangesTags old one (with_red_at at false)) where
+    step1 : TagStep old one (p.front ++ (p.tile ∷ p.back)) (p.front ++ (black ∷ p.back))
+    step1 = tag_step (p.front ++ (p.tile ∷ p.back)) (p.front ++ (black ∷ p.back)) used_said
+        (changed_at-around at p.tile p.back p.at (of_colour false) p.front used_away) paint
 
     -- and a black one free
     pub use_may : CanTakeUse one at None
     use_may = record {
-      tiles = front0 ++ (black ∷ back0);
-      said = said1;
+      tiles = p.front ++ (black ∷ p.back);
+      said = step1.says;
       tile = black;
-      stands = tile_in-around at black back0 o front0 away0;
+      stands = tile_in-around at black p.back p.at p.front used_away;
       colour = refl;
     }
 
-    module _ (two : WindowState) (change : (ts : List Tile) → EncodesTiles one ts
-        → EncodesTiles two (with_use_at at None ts))
-        (change_same : (ts : List Tile) → EncodesTiles one ts
-        → SameExceptTags one two ts (with_use_at at None ts)) where
-      list2 : with_use_at at None (front0 ++ (black ∷ back0)) ≡ front0 ++ (unused_tile ∷ back0)
-      list2 = changed_at-around at black back0 o (used_for None) front0 away0
-
-      said2 : EncodesTiles two (front0 ++ (unused_tile ∷ back0))
-      said2 = subst (EncodesTiles two) list2 (change (front0 ++ (black ∷ back0)) said1)
-
-      same2 : SameExceptTags one two (front0 ++ (black ∷ back0)) (front0 ++ (unused_tile ∷ back0))
-      same2 = subst (SameExceptTags one two (front0 ++ (black ∷ back0))) list2
-          (change_same (front0 ++ (black ∷ back0)) said1)
+    module _ {two : WindowState} (change : ChangesTags one two (with_use_at at None)) where
+      step2 : TagStep one two (p.front ++ (black ∷ p.back)) (p.front ++ (unused_tile ∷ p.back))
+      step2 = tag_step (p.front ++ (black ∷ p.back)) (p.front ++ (unused_tile ∷ p.back)) step1.says
+          (changed_at-around at black p.back p.at (used_for None) p.front used_away) change
 
       -- a tile is at this offset
       pub stands2 : HasTileAt two at
-      stands2 = record {
-        tiles = front0 ++ (unused_tile ∷ back0);
-        said = said2;
-        tile = unused_tile;
-        stands = tile_in-around at unused_tile back0 o front0 away0;
-      }
+      stands2 = stands_at p.front used_away unused_tile p.back p.at step2.says
 
       -- and the gap after it where that stood
-      pub behind2 : (ts : List Tile) → EncodesTiles two ts → gap_offset (next_in ts at) ≡ gap_offset (first_in back0)
-      behind2 ts said =
-          ap (λ (us : List Tile). gap_offset (next_in us at))
-          (one_list two ts (front0 ++ (unused_tile ∷ back0)) said said2)
-          ∙ ap gap_offset (next_in-around at unused_tile back0 o front0 away0)
+      pub behind2 : (ts : List Tile) → EncodesTiles two ts → gap_offset (next_in ts at) ≡ gap_offset (first_in p.back)
+      behind2 = behind_at p.front used_away unused_tile p.back p.at step2.says
 
-      module _ (three : WindowState) (join : (ts : List Tile) → EncodesTiles two ts
-          → EncodesTiles three (joined_free_at at ts))
-          (join_same : (ts : List Tile) → EncodesTiles two ts
-          → SameExceptTags two three ts (joined_free_at at ts)) where
+      module _ {three : WindowState} (join : ChangesTags two three (joined_free_at at)) where
         abbrev joined : Tile
-        joined = record unused_tile { len = tile0.len + joins.gap }
+        joined = record unused_tile { len = p.tile.len + joins.gap }
 
-        list3 : joined_free_at at (front0 ++ (unused_tile ∷ back0)) ≡ front0 ++ (joined ∷ joins.left)
-        list3 = changed_at-around at unused_tile back0 o with_free_behind front0 away0
-            ∙ ap (λ (ts : List Tile). front0 ++ ts) joins.is
-
-        said3 : EncodesTiles three (front0 ++ (joined ∷ joins.left))
-        said3 = subst (EncodesTiles three) list3 (join (front0 ++ (unused_tile ∷ back0)) said2)
-
-        same3 : SameExceptTags two three (front0 ++ (unused_tile ∷ back0)) (front0 ++ (joined ∷ joins.left))
-        same3 = subst (SameExceptTags two three (front0 ++ (unused_tile ∷ back0))) list3
-            (join_same (front0 ++ (unused_tile ∷ back0)) said2)
+        step3 : TagStep two three (p.front ++ (unused_tile ∷ p.back)) (p.front ++ (joined ∷ joins.left))
+        step3 = tag_step (p.front ++ (unused_tile ∷ p.back)) (p.front ++ (joined ∷ joins.left)) step2.says
+            (changed_at-around at unused_tile p.back p.at with_free_behind p.front used_away
+            ∙ ap (λ (ts : List Tile). p.front ++ ts) joins.is) join
 
         pub stands3 : HasTileAt three at
-        stands3 = record {
-          tiles = front0 ++ (joined ∷ joins.left);
-          said = said3;
-          tile = joined;
-          stands = tile_in-around at joined joins.left o front0 away0;
-        }
+        stands3 = stands_at p.front used_away joined joins.left p.at step3.says
 
         -- the tile is free
         pub free3 : (ts : List Tile) (t : Tile) → EncodesTiles three ts → tile_in ts at ≡ Some t → is_free t ≡ true
-        free3 ts t said e =
-            ap is_free (same_Some t joined (sym e
-            ∙ ap (λ (us : List Tile). tile_in us at) (one_list three ts (front0 ++ (joined ∷ joins.left)) said said3)
-            ∙ tile_in-around at joined joins.left o front0 away0))
+        free3 ts t said e = ap is_free (same_Some t joined (sym e
+            ∙ tile_at_is p.front used_away joined joins.left p.at step3.says ts said))
 
         -- and the gap before it where that stood
         pub before3 : (ts : List Tile) → EncodesTiles three ts
-            → gap_offset (previous_in ts at) ≡ gap_offset (last_in front0)
+            → gap_offset (previous_in ts at) ≡ gap_offset (last_in p.front)
         before3 ts said =
             ap (λ (us : List Tile). gap_offset (previous_in us at))
-            (one_list three ts (front0 ++ (joined ∷ joins.left)) said said3)
-            ∙ ap gap_offset (previous_in-around at joined joins.left o front0 away0)
+            (one_list three ts (p.front ++ (joined ∷ joins.left)) said step3.says)
+            ∙ ap gap_offset (previous_in-around at joined joins.left p.at p.front used_away)
 
-        module _ (new : WindowState) (last : (ts : List Tile) → EncodesTiles three ts
-            → EncodesTiles new (joined_before at ts))
-            (last_same : (ts : List Tile) → EncodesTiles three ts
-            → SameExceptTags three new ts (joined_before at ts)) where
-          old_apart : Apart false (front0 ++ (tile0 ∷ back0))
-          old_apart = subst (Apart false) list0 says.apart
+        module _ {new : WindowState} (last : ChangesTags three new (joined_before at)) where
+          last_step : Ended three p.front joined joins.left
+          last_step = ended three p.front joined joins.left step3.says refl
+              (apart_front false p.front (p.tile ∷ p.back) used_apart)
+              (joins.apart (is_free p.tile) (apart_back false p.front (p.tile ∷ p.back) used_apart).1)
 
-          last_step : Ended three front0 joined joins.left
-          last_step = ended three front0 joined joins.left said3 refl
-              (apart_front false front0 (tile0 ∷ back0) old_apart)
-              (joins.apart (is_free tile0) (apart_back false front0 (tile0 ∷ back0) old_apart).1)
+          step4 : TagStep three new (p.front ++ (joined ∷ joins.left)) last_step.list
+          step4 = tag_step (p.front ++ (joined ∷ joins.left)) last_step.list step3.says
+              (ap (λ k. joined_before k (p.front ++ (joined ∷ joins.left))) (sym p.at) ∙ last_step.is) last
 
-          list4 : joined_before at (front0 ++ (joined ∷ joins.left)) ≡ last_step.list
-          list4 = ap (λ k. joined_before k (front0 ++ (joined ∷ joins.left))) (sym o) ∙ last_step.is
-
-          said4 : EncodesTiles new last_step.list
-          said4 = subst (EncodesTiles new) list4 (last (front0 ++ (joined ∷ joins.left)) said3)
-
-          same4 : SameExceptTags three new (front0 ++ (joined ∷ joins.left)) last_step.list
-          same4 = subst (SameExceptTags three new (front0 ++ (joined ∷ joins.left))) list4
-              (last_same (front0 ++ (joined ∷ joins.left)) said3)
-
-          says4 : SaysHeap new (tiles_in new)
-          says4 = let e = tiles_are_read_off new last_step.list said4 in
-              record {
-                said = subst (EncodesTiles new) (sym e) said4;
-                apart = subst (Apart false) (sym e) last_step.apart;
-              }
-
-          old_extents : (live_of old.bytes).extents ≡ extents_of front0 ++ (extent_of tile0 role ∷ extents_of back0)
-          unfolding live_of
-          old_extents = ap extents_of list0 ∙ extents_of-around front0 tile0 back0 role in_use
-
-          left_extents : others (at + 16) (live_of old.bytes).extents ≡ extents_of front0 ++ extents_of back0
-          left_extents =
-              ap (others (at + 16)) old_extents
-              ∙ others_between 128 front0 tile0 back0 (length old.bytes - 16) (extent_of tile0 role) (at + 16)
-              (said_row old (front0 ++ (tile0 ∷ back0)) said0) refl (ap (λ k. k + 16) o)
-
-          joined_extents : extents_of front0 ++ extents_of joins.left ≡ extents_of front0 ++ extents_of back0
-          joined_extents = ap (λ xs. extents_of front0 ++ xs) (sym joins.extents)
-
-          keeps3 : KeepsBlocks two three (extents_of front0 ++ extents_of back0)
-          keeps3 =
-              let list : front0 ++ (unused_tile ∷ back0) ≡ front0 ++ (unused_tile ∷ (joins.gone ++ joins.left)) =
-              ap (λ (ts : List Tile). front0 ++ (unused_tile ∷ ts)) joins.list in
-              subst (KeepsBlocks two three) joined_extents (around_keeps two three front0 (unused_tile ∷ joins.gone)
-              (joined ∷ []) joins.left (subst (EncodesTiles two) list said2) said3
-              (subst (λ (ts : List Tile). SameExceptTags two three ts (front0 ++ (joined ∷ joins.left))) list same3))
-
-          all_keeps : KeepsBlocks old new (extents_of front0 ++ extents_of back0)
+          all_keeps : KeepsBlocks old new (extents_of p.front ++ extents_of p.back)
           all_keeps =
-              let xs = extents_of front0 ++ extents_of back0 in
-              let first = around_keeps old one front0 (tile0 ∷ []) (black ∷ []) back0 said0 said1 same1 in
-              let second = around_keeps one two front0 (black ∷ []) (unused_tile ∷ []) back0 said1 said2 same2 in
-              let fourth = subst (KeepsBlocks three new) joined_extents (last_step.keeps new said4 same4) in
+              let xs = extents_of p.front ++ extents_of p.back in
               keeps-trans old three new xs
-              (keeps-trans old two three xs (keeps-trans old one two xs first second) keeps3) fourth
-
-          -- all other blocks stay
-          other_keeps : KeepsBlocks old new (others (at + 16) (live_of old.bytes).extents)
-          other_keeps = subst (KeepsBlocks old new) (sym left_extents) all_keeps
+              (keeps-trans old two three xs (keeps-trans old one two xs
+              (around_keeps p.front (p.tile ∷ []) (black ∷ []) p.back step1)
+              (around_keeps p.front (black ∷ []) (unused_tile ∷ []) p.back step2))
+              (joined_keeps p.front unused_tile joined p.back joins step3))
+              (subst (λ zs. KeepsBlocks three new (extents_of p.front ++ zs)) (sym joins.extents)
+              (last_step.keeps new step4))
 
           -- the live set without the block
           left_live : live_of new.bytes ≡ released (live_of old.bytes) (at + 16)
           unfolding live_of
           left_live =
-              let size = same4.size ∙ same3.size ∙ same2.size ∙ same1.size in
-              let extents = ap extents_of (tiles_are_read_off new last_step.list said4) ∙ last_step.extents
-              ∙ joined_extents ∙ sym left_extents in
+              let size = step4.same.size ∙ step3.same.size ∙ step2.same.size ∙ step1.same.size in
+              let extents = ap extents_of (tiles_are_read_off new last_step.list step4.says) ∙ last_step.extents
+              ∙ ap (λ xs. extents_of p.front ++ xs) (sym joins.extents) ∙ sym used_others in
               λ i. record { size = size i; extents = extents i }
 
           -- the gaps are the old ones without the two neighbours, and the new one
-          left_gaps : gaps_in new ≡ gaps_of (without_last front0) ++ (gap_of last_step.whole ∷ gaps_of (rest_of back0))
+          left_gaps : gaps_in new ≡ gaps_of (without_last p.front)
+              ++ (gap_of last_step.whole ∷ gaps_of (rest_of p.back))
           left_gaps =
-              ap gaps_of (tiles_are_read_off new last_step.list said4 ∙ last_step.shape)
+              ap gaps_of (tiles_are_read_off new last_step.list step4.says ∙ last_step.shape)
               ∙ gaps_of-append last_step.front0 (last_step.whole ∷ joins.left)
               ∙ ap (λ (hs : List Gap). hs ++ gaps_of (last_step.whole ∷ joins.left)) last_step.gaps0
-              ∙ ap (λ (hs : List Gap). gaps_of (without_last front0) ++ hs)
+              ∙ ap (λ (hs : List Gap). gaps_of (without_last p.front) ++ hs)
               (gaps_of-free last_step.whole joins.left last_step.whole_free
               ∙ ap (λ (hs : List Gap). gap_of last_step.whole ∷ hs) joins.gaps)
 
-          left_start : last_step.whole.offset ≡ start_of (last_in front0) at
-          left_start = last_step.start ∙ ap (start_of (last_in front0)) o
-
-          -- word 24 stays
-          left_word : word_at (bytes_of new.bytes) 24 ≡ word_at (bytes_of old.bytes) 24
-          left_word =
-              step_word three new (front0 ++ (joined ∷ joins.left)) last_step.list said3 said4 same4
-              ∙ step_word two three (front0 ++ (unused_tile ∷ back0))
-              (front0 ++ (joined ∷ joins.left)) said2 said3 same3
-              ∙ step_word one two (front0 ++ (black ∷ back0)) (front0 ++ (unused_tile ∷ back0)) said1 said2 same2
-              ∙ step_word old one (front0 ++ (tile0 ∷ back0)) (front0 ++ (black ∷ back0)) said0 said1 same1
-
           -- the fields of the other gaps stay
-          left_cell : (m : ℕ) → is_in m (payloads (gaps_of (without_last front0) ++ gaps_of (rest_of back0))) ≡ true
+          left_cell : (m : ℕ) → is_in m (payloads (gaps_of (without_last p.front) ++ gaps_of (rest_of p.back))) ≡ true
               → cells_of (bytes_of new.bytes) m ≡ cells_of (bytes_of old.bytes) m
           left_cell m i =
-              let f = free_at (without_last front0 ++ rest_of back0) m
+              let f = free_at (without_last p.front ++ rest_of p.back) m
               (subst (λ (hs : List Gap). is_in m (payloads hs) ≡ true)
-              (sym (gaps_of-append (without_last front0) (rest_of back0))) i) in
+              (sym (gaps_of-append (without_last p.front) (rest_of p.back))) i) in
               let u = f.tile in
-              let h : In u (without_last front0 ++ rest_of back0) = subst (λ (us : List Tile). In u us) (sym f.list)
+              let h : In u (without_last p.front ++ rest_of p.back) = subst (λ (us : List Tile). In u us) (sym f.list)
               (in_around f.front u f.back) in
-              let wide : (mid : List Tile) → In u (front0 ++ (mid ++ back0)) = λ mid. in_parts_wide u
-              (without_last front0) (rest_of back0) front0 mid back0 (in-without_last u front0) (in_rest u back0) h in
-              let i3 : In u (front0 ++ (joined ∷ joins.left)) = in_parts_wide u (without_last front0) (rest_of back0)
-              front0 (joined ∷ []) joins.left (in-without_last u front0) (joins.rest_in u) h in
-              let i4 : In u last_step.list =
-              subst (λ (us : List Tile). In u us) (sym last_step.shape)
-              (in_parts_wide u (without_last front0) (rest_of back0) last_step.front0 (last_step.whole ∷ [])
+              let wide : (mid : List Tile) → In u (p.front ++ (mid ++ p.back)) = λ mid. in_parts_wide u
+              (without_last p.front) (rest_of p.back) p.front mid p.back (in-without_last u p.front)
+              (in_rest u p.back) h in
+              let i3 : In u (p.front ++ (joined ∷ joins.left)) = in_parts_wide u (without_last p.front)
+              (rest_of p.back) p.front (joined ∷ []) joins.left (in-without_last u p.front) (joins.rest_in u) h in
+              let i4 : In u last_step.list = subst (λ (us : List Tile). In u us) (sym last_step.shape)
+              (in_parts_wide u (without_last p.front) (rest_of p.back) last_step.front0 (last_step.whole ∷ [])
               joins.left (last_step.init_in u) (joins.rest_in u) h) in
-              let i0 = wide (tile0 ∷ []) in let i1 = wide (black ∷ []) in let i2 = wide (unused_tile ∷ []) in
-              let long = (row_lies 128 (front0 ++ (tile0 ∷ back0)) (length old.bytes - 16) u
-              (said_row old (front0 ++ (tile0 ∷ back0)) said0) i0).long in
-              let s0 = in_stands old (front0 ++ (tile0 ∷ back0)) u said0 i0 in
-              let s1 = in_stands one (front0 ++ (black ∷ back0)) u said1 i1 in
-              let s2 = in_stands two (front0 ++ (unused_tile ∷ back0)) u said2 i2 in
-              let s3 = in_stands three (front0 ++ (joined ∷ joins.left)) u said3 i3 in
-              let s4 = in_stands new last_step.list u said4 i4 in
-              step_cell three new (front0 ++ (joined ∷ joins.left)) last_step.list said3 said4 same4
-              u m i3 i4 f.at long s3 s4
-              ∙ step_cell two three (front0 ++ (unused_tile ∷ back0)) (front0 ++ (joined ∷ joins.left)) said2 said3
-              same3 u m i2 i3 f.at long s2 s3
-              ∙ step_cell one two (front0 ++ (black ∷ back0)) (front0 ++ (unused_tile ∷ back0)) said1 said2 same2
-              u m i1 i2 f.at long s1 s2
-              ∙ step_cell old one (front0 ++ (tile0 ∷ back0)) (front0 ++ (black ∷ back0)) said0 said1 same1
-              u m i0 i1 f.at long s0 s1
+              let i1 = wide (black ∷ []) in let i2 = wide (unused_tile ∷ []) in
+              step_cell step4 u m i3 i4 f.at ∙ step_cell step3 u m i2 i3 f.at ∙ step_cell step2 u m i1 i2 f.at
+              ∙ step_cell step1 u m (wide (p.tile ∷ [])) i1 f.at
 
-          pub freed : Freed old new at front0 back0
+          pub freed : Freed old new at p.front p.back
           freed = record {
             whole = last_step.whole;
-            says = says4;
-            keeps = other_keeps;
+            says = says_of new last_step.list step4.says last_step.apart;
+            keeps = subst (KeepsBlocks old new) (sym used_others) all_keeps;
             live = left_live;
             gaps = left_gaps;
-            start = left_start;
-            word = left_word;
+            start = last_step.start ∙ ap (start_of (last_in p.front)) p.at;
+            word = step_word step4 ∙ step_word step3 ∙ step_word step2 ∙ step_word step1;
             cell = left_cell;
           }

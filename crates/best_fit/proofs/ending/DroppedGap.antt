@@ -2,12 +2,12 @@
 use Rattle.best_fit.proofs.Common.{◌≡◌, refl, sym, ap, subst, ◌∙◌, ℕ, ◌+◌, ◌-◌, ◌<◌, ◌≤◌, Bool, true, false, List, []}
 use Rattle.best_fit.proofs.Common.{◌∷◌, ◌++◌, length, arith, IsTrue, Some, None, both_ways, append-nil, length-append}
 use Rattle.best_fit.proofs.Common.{same_Some, none-some, WindowState, SameBytes, bytes_of, whole, current, Tile}
-use Rattle.best_fit.proofs.Common.{last_in}
-use Rattle.best_fit.proofs.Common.{without_last, is_free, PrefixSaysTiles, EncodesTiles, SameExceptTags}
+use Rattle.best_fit.proofs.Common.{last_in, without_last, is_free, PrefixSaysTiles, EncodesTiles, SameExceptTags}
 use Rattle.best_fit.proofs.Common.{prefix_is_a_window, tiles_are_read_off, MovesEnd, KeepsTo, last_end, least_size}
 use Rattle.best_fit.proofs.Common.{of_size, Extent, IsTreeOf, payloads, sorted_gaps, gaps_in, gaps_of, tiles_in}
 use Rattle.best_fit.proofs.Common.{HasGapTree, EncodesLiveSet, live_of}
 use Rattle.raw_region.specs.Memory.{cut_at}
+use Rattle.best_fit.specs.Tiling.{DropsLast}
 use Rattle.block_tags.specs.Windows.{HasFreeLast}
 use Rattle.block_tags.proofs.Laws.{AreTags-AreContiguous}
 use Rattle.best_fit.proofs.tags.RowParts.{apart_front}
@@ -18,9 +18,7 @@ use Rattle.best_fit.proofs.tags.TagsAndLiveSet.{IsLegal, SaysHeap, legal_size, s
 use Rattle.best_fit.proofs.allocation.GapToBlock.{lays_out}
 use Rattle.best_fit.proofs.gaps.LinksOnly.{tree_says}
 use Rattle.best_fit.proofs.tags.TileRows.{Apart, AreContiguous-Row, Row, extents_of, extents_of-free, extents_of-used}
-use Rattle.best_fit.proofs.tags.TileRows.{unused}
-use Rattle.best_fit.proofs.tags.TileRows.{used}
-use Rattle.best_fit.proofs.tags.TileRows.{use_cases, unused-free}
+use Rattle.best_fit.proofs.tags.TileRows.{unused, used, use_cases, unused-free}
 use Rattle.best_fit.proofs.tags.UnchangedTags.{In, in_front, inside, low_beside, tag_in}
 
 -- ---- where the last block ends
@@ -103,14 +101,12 @@ module _ (c : WindowState) (front : List Tile) (t : Tile) (list : tiles_in c ≡
   row_c : Row 128 (front ++ t ∷ []) (length c.bytes - 16)
   row_c = said_row c (front ++ t ∷ []) said
 
-  module _ (d : WindowState) (n : ℕ) (tags : (ts : List Tile) → EncodesTiles c ts
-      → PrefixSaysTiles d n (without_last ts))
-      (rest : (ts : List Tile) → EncodesTiles c ts → SameExceptTags c d ts (without_last ts)) where
+  module _ {d : WindowState} {n : ℕ} (drops : DropsLast c d n) where
     front_d : PrefixSaysTiles d n front
-    front_d = subst (PrefixSaysTiles d n) (without_behind front t) (tags (front ++ t ∷ []) said)
+    front_d = subst (PrefixSaysTiles d n) (without_behind front t) (drops.tags (front ++ t ∷ []) said)
 
     beside : SameExceptTags c d (front ++ t ∷ []) front
-    beside = subst (SameExceptTags c d (front ++ t ∷ [])) (without_behind front t) (rest (front ++ t ∷ []) said)
+    beside = subst (SameExceptTags c d (front ++ t ∷ [])) (without_behind front t) (drops.frame (front ++ t ∷ []) said)
 
     -- the conditions of the cut
     pub drop_fits : length d.before + n ≤ length (whole d)

@@ -2,29 +2,27 @@
 use Rattle.best_fit.proofs.Common.{◌≡◌, refl, sym, ap, subst, ◌∙◌, ℕ, ◌+◌, ◌-◌, ◌%◌, ◌<◌, ◌≤◌, inl, inr, false, List}
 use Rattle.best_fit.proofs.Common.{[], ◌∷◌, ◌++◌, length, arith, IsTrue, ◌==◌, Some, list_any, append-nil, false≢true}
 use Rattle.best_fit.proofs.Common.{eq-eqb, or_left, or_right, WindowState, SameBytes, bytes_of, whole, current, Object}
-use Rattle.best_fit.proofs.Common.{Tile}
-use Rattle.best_fit.proofs.Common.{is_legal_size, free_tile, used_for, with_use_at, PrefixSaysTiles, CanTakeUse}
+use Rattle.best_fit.proofs.Common.{Tile, is_legal_size, free_tile, used_for, with_use_at, PrefixSaysTiles, CanTakeUse}
 use Rattle.best_fit.proofs.Common.{EncodesTiles, SameExceptTags, prefix_is_a_window, tiles_are_read_off, AppendsBlock}
 use Rattle.best_fit.proofs.Common.{MovesEnd, KeepsTo, of_size, Extent, Gap, LiveSet, end_of, handle, proper_from}
 use Rattle.best_fit.proofs.Common.{others, released, IsTreeOf, payloads, sorted_gaps, gaps_in, gaps_of, tiles_in}
 use Rattle.best_fit.proofs.Common.{IsHeap, Deallocates, KeepsBlocks, EncodesLiveSet, is_live_in, live_of}
 use Rattle.raw_region.specs.Memory.{cut_at}
-use Rattle.block_tags.specs.Lists.{with_free}
 use Rattle.block_tags.specs.Windows.{CanAppend}
 use Rattle.best_fit.specs.Ends.{block_behind}
 use Rattle.best_fit.proofs.allocation.LeastGap.{heap_tree}
 use Rattle.best_fit.proofs.tags.RowParts.{Away, apart_joined, changed_at-around, row_away, tile_in-around}
 use Rattle.best_fit.proofs.ending.TwoMemories.{Carries, carried_blocks, carried_tree, ends-then, keeps_to-then}
-use Rattle.best_fit.proofs.ending.TwoMemories.{resized_ends}
-use Rattle.best_fit.proofs.ending.TwoMemories.{resized_same}
+use Rattle.best_fit.proofs.ending.TwoMemories.{resized_ends, resized_same}
 use Rattle.best_fit.proofs.extents.Changes.{is_proper-IsProper}
 use Rattle.best_fit.proofs.tags.TileJoins.{extents_of-append}
-use Rattle.best_fit.proofs.tags.TagsAndLiveSet.{IsLegal, SaysHeap, heap-says, legal_size, said_row, says-live}
+use Rattle.best_fit.proofs.tags.TagsAndLiveSet.{says_of, IsLegal, SaysHeap, heap-says, legal_size, said_row, says-live}
 use Rattle.best_fit.proofs.tags.OneLiveSet.{lay_out_one}
 use Rattle.best_fit.proofs.allocation.GapToBlock.{lays_out}
 use Rattle.best_fit.proofs.extents.Proper.{IsHole, others-here, others-past, proper_from-IsFirst}
-use Rattle.best_fit.proofs.tags.TileRows.{Apart, Row, extents_of, gaps_of-append, gaps_of-used}
-use Rattle.best_fit.proofs.tags.UnchangedTags.{In, in_front, inside, low_beside, tag_in}
+use Rattle.best_fit.proofs.tags.TileRows.{Row, extents_of, gaps_of-append, gaps_of-used}
+use Rattle.best_fit.proofs.tags.UnchangedTags.{TagStep, tag_step, In, in_front, inside, low_beside, tag_in}
+use Rattle.best_fit.specs.Tiling.{AppendsFree, ChangesTags}
 use Rattle.best_fit.proofs.tags.Writes.{laid-heap}
 
 -- the size is legal where it is that of a segment and this many bytes more
@@ -73,15 +71,12 @@ module _ (c c1 : WindowState) (extra : ℕ) (heap : IsHeap current c.bytes) (lon
         room = omega arith;
       }
 
-  module _ (c2 : WindowState) (tags2 : (us : List Tile) → PrefixSaysTiles c1 (length c.bytes) us
-      → EncodesTiles c2 (with_free us (length c.bytes - 16) (length c1.bytes - 16)))
-      (rest2 : (us : List Tile) → PrefixSaysTiles c1 (length c.bytes) us
-      → SameExceptTags c1 c2 us (with_free us (length c.bytes - 16) (length c1.bytes - 16))) where
+  module _ {c2 : WindowState} (add : AppendsFree c1 c2 (length c.bytes)) where
     abbrev free : Tile
     free = free_tile (length c.bytes - 16) (length c1.bytes - 16 - (length c.bytes - 16))
 
     said2 : EncodesTiles c2 (tiles_in c ++ free ∷ [])
-    said2 = tags2 (tiles_in c) front1
+    said2 = add.tags (tiles_in c) front1
 
     away : Away (length c.bytes - 16) (tiles_in c)
     away = row_away 128 (tiles_in c) (length c.bytes - 16) (length c.bytes - 16)
@@ -97,10 +92,7 @@ module _ (c c1 : WindowState) (extra : ℕ) (heap : IsHeap current c.bytes) (lon
       colour = refl;
     }
 
-    module _ (c3 : WindowState) (tags3 : (us : List Tile) → EncodesTiles c2 us
-        → EncodesTiles c3 (with_use_at (length c.bytes - 16) (Some Object) us))
-        (rest3 : (us : List Tile) → EncodesTiles c2 us
-        → SameExceptTags c2 c3 us (with_use_at (length c.bytes - 16) (Some Object) us)) where
+    module _ {c3 : WindowState} (change : ChangesTags c2 c3 (with_use_at (length c.bytes - 16) (Some Object))) where
       abbrev used : Tile
       used = record {
         offset = length c.bytes - 16;
@@ -109,23 +101,18 @@ module _ (c c1 : WindowState) (extra : ℕ) (heap : IsHeap current c.bytes) (lon
         red = false;
       }
 
-      list3 : with_use_at (length c.bytes - 16) (Some Object) (tiles_in c ++ free ∷ []) ≡ tiles_in c ++ used ∷ []
-      list3 = changed_at-around (length c.bytes - 16) free [] refl (used_for (Some Object)) (tiles_in c) away
-
-      said3 : EncodesTiles c3 (tiles_in c ++ used ∷ [])
-      said3 = subst (EncodesTiles c3) list3 (tags3 (tiles_in c ++ free ∷ []) said2)
+      step3 : TagStep c2 c3 (tiles_in c ++ free ∷ []) (tiles_in c ++ used ∷ [])
+      step3 = tag_step (tiles_in c ++ free ∷ []) (tiles_in c ++ used ∷ []) said2
+          (changed_at-around (length c.bytes - 16) free [] refl (used_for (Some Object)) (tiles_in c) away) change
 
       beside2 : SameExceptTags c1 c2 (tiles_in c) (tiles_in c ++ free ∷ [])
-      beside2 = rest2 (tiles_in c) front1
-
-      beside3 : SameExceptTags c2 c3 (tiles_in c ++ free ∷ []) (tiles_in c ++ used ∷ [])
-      beside3 = subst (SameExceptTags c2 c3 (tiles_in c ++ free ∷ [])) list3 (rest3 (tiles_in c ++ free ∷ []) said2)
+      beside2 = add.frame (tiles_in c) front1
 
       size2 : length c2.bytes ≡ length c.bytes + extra
       size2 = beside2.size ∙ size1
 
       size3 : length c3.bytes ≡ length c.bytes + extra
-      size3 = beside3.size ∙ size2
+      size3 = step3.same.size ∙ size2
 
       row_c : Row 128 (tiles_in c) (length c.bytes - 16)
       row_c = said_row c (tiles_in c) says.said
@@ -139,8 +126,8 @@ module _ (c c1 : WindowState) (extra : ℕ) (heap : IsHeap current c.bytes) (lon
           let b = inside 128 t (tiles_in c ++ free ∷ []) (length c2.bytes - 16) k
           (said_row c2 (tiles_in c ++ free ∷ []) said2) (in_front t (tiles_in c) (free ∷ []) i) low high in
           let d = inside 128 t (tiles_in c ++ used ∷ []) (length c3.bytes - 16) k
-          (said_row c3 (tiles_in c ++ used ∷ []) said3) (in_front t (tiles_in c) (used ∷ []) i) low high in
-          beside3.bytes k b.beside d.beside (omega arith) ∙ beside2.bytes k a.beside b.beside (omega arith)
+          (said_row c3 (tiles_in c ++ used ∷ []) step3.says) (in_front t (tiles_in c) (used ∷ []) i) low high in
+          step3.same.bytes k b.beside d.beside (omega arith) ∙ beside2.bytes k a.beside b.beside (omega arith)
           ∙ same1.at k (omega arith) (omega arith)
 
       header_stays : SameBytes (bytes_of c.bytes) (bytes_of c3.bytes) 0 128
@@ -152,8 +139,8 @@ module _ (c c1 : WindowState) (extra : ℕ) (heap : IsHeap current c.bytes) (lon
                 let b = low_beside 128 (tiles_in c ++ free ∷ []) (length c2.bytes - 16) k
                 (said_row c2 (tiles_in c ++ free ∷ []) said2) high in
                 let d = low_beside 128 (tiles_in c ++ used ∷ []) (length c3.bytes - 16) k
-                (said_row c3 (tiles_in c ++ used ∷ []) said3) high in
-                beside3.bytes k b d (omega arith) ∙ beside2.bytes k a b (omega arith) ∙ same1.at k low (omega arith);
+                (said_row c3 (tiles_in c ++ used ∷ []) step3.says) high in
+                step3.same.bytes k b d (omega arith) ∙ beside2.bytes k a b (omega arith) ∙ same1.at k low (omega arith);
           }
 
       carries : Carries (bytes_of c.bytes) (bytes_of c3.bytes) (tiles_in c) (length c.bytes - 16)
@@ -163,7 +150,8 @@ module _ (c c1 : WindowState) (extra : ℕ) (heap : IsHeap current c.bytes) (lon
             old = λ t i. tag_in current (bytes_of c.bytes) 128 0 (tiles_in c) (length c.bytes - 16)
                 t says.said.tags row_c i;
             new = λ t i. tag_in current (bytes_of c3.bytes) 128 0 (tiles_in c ++ used ∷ []) (length c3.bytes - 16) t
-                said3.tags (said_row c3 (tiles_in c ++ used ∷ []) said3) (in_front t (tiles_in c) (used ∷ []) i);
+                step3.says.tags (said_row c3 (tiles_in c ++ used ∷ []) step3.says)
+                (in_front t (tiles_in c) (used ∷ []) i);
             payload = λ t i. record {
               at = λ k low high. let a = inside 128 t (tiles_in c) (length c.bytes - 16) k row_c i low high in
                   let l = a.high in byte_stays k (omega arith) t i low high;
@@ -172,15 +160,11 @@ module _ (c c1 : WindowState) (extra : ℕ) (heap : IsHeap current c.bytes) (lon
           }
 
       list_is : tiles_in c3 ≡ tiles_in c ++ used ∷ []
-      list_is = tiles_are_read_off c3 (tiles_in c ++ used ∷ []) said3
+      list_is = tiles_are_read_off c3 (tiles_in c ++ used ∷ []) step3.says
 
       says3 : SaysHeap c3 (tiles_in c3)
-      says3 =
-          record {
-            said = subst (EncodesTiles c3) (sym list_is) said3;
-            apart = subst (Apart false) (sym list_is)
-                (apart_joined false (tiles_in c) (used ∷ []) says.apart (λ a no. absurd (false≢true no), tt));
-          }
+      says3 = says_of c3 (tiles_in c ++ used ∷ []) step3.says
+          (apart_joined false (tiles_in c) (used ∷ []) says.apart (λ a no. absurd (false≢true no), tt))
 
       -- the gaps are the same
       pub gaps3 : gaps_in c3 ≡ gaps_in c
@@ -216,7 +200,7 @@ module _ (c c1 : WindowState) (extra : ℕ) (heap : IsHeap current c.bytes) (lon
           record {
             place = ends-then c c2 c3 (length c.bytes + extra)
                 (ends-then c c1 c2 (length c.bytes + extra) (resized_ends c c1 (length c.bytes + extra) e1 fits)
-                beside2.place beside2.size) beside3.place beside3.size;
+                beside2.place beside2.size) step3.same.place step3.same.size;
             front = record { at = λ k low high. header_stays.at k low (omega arith) };
             behind = record { at = λ k low high. header_stays.at k (omega arith) high };
             blocks = rw e (carried_blocks (bytes_of c.bytes) (bytes_of c3.bytes) (tiles_in c)
@@ -236,20 +220,9 @@ module _ (c c1 : WindowState) (extra : ℕ) (heap : IsHeap current c.bytes) (lon
 -- the same lemma for a size that equals the window's
 pub record LongerWindow (c : WindowState) (extra size : ℕ) (c1 : WindowState) : Type 0 where
   pub room : CanAppend c1 size
-  pub used : (c2 : WindowState)
-      → ((us : List Tile) → PrefixSaysTiles c1 size us
-      → EncodesTiles c2 (with_free us (size - 16) (length c1.bytes - 16)))
-      → ((us : List Tile) → PrefixSaysTiles c1 size us
-      → SameExceptTags c1 c2 us (with_free us (size - 16) (length c1.bytes - 16)))
-      → CanTakeUse c2 (size - 16) (Some Object)
-  pub block : (c2 : WindowState)
-      → ((us : List Tile) → PrefixSaysTiles c1 size us
-      → EncodesTiles c2 (with_free us (size - 16) (length c1.bytes - 16)))
-      → ((us : List Tile) → PrefixSaysTiles c1 size us
-      → SameExceptTags c1 c2 us (with_free us (size - 16) (length c1.bytes - 16)))
-      → (c3 : WindowState) → ((us : List Tile) → EncodesTiles c2 us
-      → EncodesTiles c3 (with_use_at (size - 16) (Some Object) us))
-      → ((us : List Tile) → EncodesTiles c2 us → SameExceptTags c2 c3 us (with_use_at (size - 16) (Some Object) us))
+  pub used : (c2 : WindowState) → AppendsFree c1 c2 size → CanTakeUse c2 (size - 16) (Some Object)
+  pub block : (c2 : WindowState) → AppendsFree c1 c2 size → (c3 : WindowState)
+      → ChangesTags c2 c3 (with_use_at (size - 16) (Some Object))
       → AppendsBlock current c c3 extra × (gaps_in c3 ≡ gaps_in c)
 
 -- a longer window of the same region: its front describes the tiles, and the added bytes are free to use
@@ -264,10 +237,10 @@ longer_window c extra heap long multiple small fits size s c1 e =
     ∙ ap (λ n. cut_at (whole c) (length c.before) (n + extra)) s in
     subst (λ n. LongerWindow c extra n c1) (sym s) (record {
       room = can_append c c1 extra heap long multiple small fits e1;
-      used = λ c2 tags2 rest2. can_use c c1 extra heap long multiple small fits e1 c2 tags2 rest2;
-      block = λ c2 tags2 rest2 c3 tags3 rest3. (
-        has_block_behind c c1 extra heap long multiple small fits e1 c2 tags2 rest2 c3 tags3 rest3,
-        gaps3 c c1 extra heap long multiple small fits e1 c2 tags2 rest2 c3 tags3 rest3,
+      used = λ c2 add. can_use c c1 extra heap long multiple small fits e1 add;
+      block = λ c2 add c3 change. (
+        has_block_behind c c1 extra heap long multiple small fits e1 add change,
+        gaps3 c c1 extra heap long multiple small fits e1 add change,
       );
     })
 

@@ -1,12 +1,10 @@
 -- The gap at the end of a heap, if there is one: it leaves the tree and is dropped.
 use Rattle.best_fit.proofs.Common.{◌≡◌, refl, sym, ap, subst, ◌∙◌, ℕ, ◌+◌, ◌-◌, ◌≤◌, true, false, List, [], ◌∷◌, ◌++◌}
-use Rattle.best_fit.proofs.Common.{length, arith, Option, Some, None, map, cond-false, cond-true, append-nil}
-use Rattle.best_fit.proofs.Common.{same_Some, none-some, WindowState, bytes_of, current, SameBytes-refl, Tile, last_in}
-use Rattle.best_fit.proofs.Common.{is_free}
+use Rattle.best_fit.proofs.Common.{length, arith, Option, Some, None, map, cond-false, cond-true, append-nil, same_Some}
+use Rattle.best_fit.proofs.Common.{none-some, WindowState, bytes_of, current, SameBytes-refl, Tile, last_in, is_free}
 use Rattle.best_fit.proofs.Common.{is_in, MovesEnd, KeepsTo, last_end, least_size, of_size, Extent, Gap, LiveSet}
 use Rattle.best_fit.proofs.Common.{payloads, gap_of, gaps_in, gaps_of, plain, tiles_in, HasGapTree, ChangesGapTree}
-use Rattle.best_fit.proofs.Common.{gap_offset}
-use Rattle.best_fit.proofs.Common.{node_of, IsHeap, EncodesLiveSet, live_of}
+use Rattle.best_fit.proofs.Common.{gap_offset, node_of, IsHeap, EncodesLiveSet, live_of}
 use Rattle.best_fit.proofs.allocation.LeastGap.{heap_tree}
 use Rattle.best_fit.proofs.tags.RowParts.{last_in-EndsWith}
 use Rattle.best_fit.proofs.ending.TwoMemories.{then-keeps_to}
@@ -16,9 +14,7 @@ use Rattle.best_fit.proofs.gaps.OneField.{same_gaps}
 use Rattle.best_fit.proofs.tags.TagsAndLiveSet.{heap-says, legal_size, said_row}
 use Rattle.best_fit.proofs.gaps.LinksOnly.{SplitsAlike, regrown_keeps, regrown_live, splits_alike, tree_says}
 use Rattle.best_fit.proofs.tags.TileRows.{Row, extents_of, extents_of-free, extents_of-used, gaps_of-append}
-use Rattle.best_fit.proofs.tags.TileRows.{gaps_of-free}
-use Rattle.best_fit.proofs.tags.TileRows.{unused, used}
-use Rattle.best_fit.proofs.tags.TileRows.{use_cases, unused-free, used-not_free}
+use Rattle.best_fit.proofs.tags.TileRows.{gaps_of-free, unused, used, use_cases, unused-free, used-not_free}
 use Rattle.best_fit.proofs.tile_walk.Walk.{live_extents}
 use Rattle.best_fit.proofs.free_tree.UnlinkIfGap.{One, one_listed, one_small}
 

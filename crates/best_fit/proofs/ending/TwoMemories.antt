@@ -1,20 +1,18 @@
 -- Tiles in two memories, with the same payloads: their blocks and their tree are the same. And a window whose end
 -- moves.
-use Rattle.best_fit.proofs.Common.{◌≡◌, sym, ap, subst, ◌∙◌, ℕ, ◌+◌, ◌-◌, ◌/◌, ◌%◌, ◌≤◌, true, List, ◌++◌, length}
-use Rattle.best_fit.proofs.Common.{take, drop, arith, ◌==◌, append_assoc, Option, slice_index, AllByRecursion}
-use Rattle.best_fit.proofs.Common.{length-append, Memory, WindowState, SameBytes, SameSurroundings, bytes_of, part}
-use Rattle.best_fit.proofs.Common.{whole, word_at}
-use Rattle.best_fit.proofs.Common.{SameBytes-trans, SameBytes-word, length-part, part-at, whole-cut_at, Tile, IsTree}
-use Rattle.best_fit.proofs.Common.{is_in}
-use Rattle.best_fit.proofs.Common.{tree_same, link_at, target_of, KeepsTo, Extent, IsTreeOf, cells_of, payloads}
-use Rattle.best_fit.proofs.Common.{sorted_gaps, gaps_of, KeepsBlocks, SameBlock}
+use Rattle.best_fit.proofs.Common.{◌≡◌, sym, ap, subst, ◌∙◌, ℕ, ◌+◌, ◌-◌, ◌/◌, ◌%◌, ◌≤◌, true, List, ◌++◌, length, take}
+use Rattle.best_fit.proofs.Common.{drop, arith, ◌==◌, append_assoc, slice_index, AllByRecursion, length-append, Memory}
+use Rattle.best_fit.proofs.Common.{WindowState, SameBytes, SameSurroundings, bytes_of, part, whole, word_at}
+use Rattle.best_fit.proofs.Common.{SameBytes-trans, SameBytes-word, length-part, part-at, whole-cut_at, Tile, is_in}
+use Rattle.best_fit.proofs.Common.{link_at, target_of, KeepsTo, Extent, IsTreeOf, cells_of, payloads, sorted_gaps}
+use Rattle.best_fit.proofs.Common.{gaps_of, KeepsBlocks, SameBlock}
 use Rattle.std.proofs.Math.Seq.{drop-append_seam, take-append_seam}
 use Rattle.std.proofs.lemmas.List.{drop-drop}
 use Rattle.raw_region.specs.Memory.{cut_at}
 use Rattle.best_fit.specs.Ends.{EndsAt}
 use Rattle.best_fit.proofs.tags.Frames.{blocks-trans}
 use Rattle.best_fit.proofs.gaps.Nodes.{free_at, in_around, row_lies}
-use Rattle.best_fit.proofs.gaps.Order.{in_sorted}
+use Rattle.best_fit.proofs.gaps.Order.{gap_tree_stays}
 use Rattle.best_fit.proofs.gaps.Setters.{cell_stays}
 use Rattle.best_fit.proofs.tags.TileRows.{Row, extents_of}
 use Rattle.best_fit.proofs.tags.UnchangedTags.{HasTag, In, all_used}
@@ -62,16 +60,7 @@ module _ (m m' : Memory) (ts : List Tile) (end : ℕ) (c : Carries m m' ts end) 
   -- and their tree stays
   pub carried_tree : IsTreeOf m 24 (payloads (sorted_gaps (gaps_of ts)))
       → IsTreeOf m' 24 (payloads (sorted_gaps (gaps_of ts)))
-  carried_tree old =
-      record {
-        tree = old.tree;
-        linked = subst (λ (o : Option ℕ). IsTree (cells_of m') o old.tree) (sym carried_root)
-            (tree_same (cells_of m) (cells_of m') (link_at m 24) old.tree
-            (λ n i. carried_cell n (sym (in_sorted n (gaps_of ts)) ∙ ap (λ (ns : List ℕ). is_in n ns) (sym old.lists)
-            ∙ i)) old.linked);
-        red_black = old.red_black;
-        lists = old.lists;
-      }
+  carried_tree = gap_tree_stays m m' (gaps_of ts) carried_root carried_cell
 
 -- ---- a window that ends elsewhere
 

@@ -1,13 +1,11 @@
 -- Several exchanges of blocks, one after another: their common result, and the blocks that stay.
-use Rattle.best_fit.proofs.Common.{◌≡◌, ◌≢◌, refl, sym, ap, subst, ◌∙◌, inl, inr, ◌⊎◌, ℕ, ◌+◌, ◌<◌, ◌≤◌, Some, List}
-use Rattle.best_fit.proofs.Common.{[], ◌∷◌, ◌++◌, ◌==◌, arith, IsTrue, find, ⊤, AllByRecursion, Memory, WindowState}
-use Rattle.best_fit.proofs.Common.{bytes_of}
-use Rattle.best_fit.proofs.Common.{SameBytes-refl, SameBytes-trans, SameSurroundings-trans, Role, ExchangesBlocks}
-use Rattle.best_fit.proofs.Common.{SameBlockExcept, exchanged}
-use Rattle.best_fit.proofs.Common.{inserted, without_all, Extent, LiveSet, handle, end_of, is_proper, insert, others}
-use Rattle.best_fit.proofs.Common.{released, AllocatesOk, ChangesBytes, IsHeap, Deallocates, ResizesBlock, KeepsBlocks}
-use Rattle.best_fit.proofs.Common.{EncodesLiveSet}
-use Rattle.best_fit.proofs.Common.{SameBlock, extent_at, has_room, live_of}
+use Rattle.best_fit.proofs.Common.{◌≡◌, ◌≢◌, refl, sym, ap, subst, ◌∙◌, inl, inr, ◌⊎◌, ℕ, ◌+◌, ◌<◌, ◌≤◌, Some, List, []}
+use Rattle.best_fit.proofs.Common.{◌∷◌, ◌++◌, ◌==◌, arith, IsTrue, find, ⊤, AllByRecursion, Memory, WindowState}
+use Rattle.best_fit.proofs.Common.{bytes_of, SameBytes-refl, SameBytes-trans, SameSurroundings-trans, Role}
+use Rattle.best_fit.proofs.Common.{ExchangesBlocks, SameBlockExcept, exchanged, inserted, without_all, Extent, LiveSet}
+use Rattle.best_fit.proofs.Common.{handle, end_of, is_proper, insert, others, released, AllocatesOk, ChangesBytes}
+use Rattle.best_fit.proofs.Common.{IsHeap, Deallocates, ResizesBlock, KeepsBlocks, EncodesLiveSet, SameBlock, extent_at}
+use Rattle.best_fit.proofs.Common.{has_room, live_of}
 use Rattle.best_fit.proofs.allocation.NewBlock.{changed-keeps_block}
 use Rattle.best_fit.proofs.exchange.OneExchange.{all-same-but}
 use Rattle.best_fit.proofs.tags.OneLiveSet.{lay_out_one}

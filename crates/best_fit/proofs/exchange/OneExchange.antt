@@ -1,17 +1,13 @@
 -- A block that replaces another.
 use Rattle.best_fit.proofs.Common.{◌≡◌, ◌≢◌, refl, sym, ap, subst, ◌∙◌, inl, ℕ, ◌+◌, ◌-◌, ◌%◌, ◌<◌, ◌≤◌, Bool, true}
-use Rattle.best_fit.proofs.Common.{false}
-use Rattle.best_fit.proofs.Common.{Option, Some, None, List, [], ◌∷◌, arith, if◌then◌else◌, IsTrue, IfSome}
+use Rattle.best_fit.proofs.Common.{false, Option, Some, None, List, [], ◌∷◌, arith, if◌then◌else◌, IsTrue, IfSome}
 use Rattle.best_fit.proofs.Common.{option_map, min, Result, and_from, le-leb, leb-true, lt-leb, AllByRecursion}
-use Rattle.best_fit.proofs.Common.{both_ways, same_Some, none-some, SameBytesExcept-word, Memory}
-use Rattle.best_fit.proofs.Common.{WindowState, SameBytesExcept}
-use Rattle.best_fit.proofs.Common.{bytes_of}
-use Rattle.best_fit.proofs.Common.{read, Storage, current, exchanged, SameBlockExcept}
+use Rattle.best_fit.proofs.Common.{both_ways, same_Some, none-some, SameBytesExcept-word, Memory, WindowState}
+use Rattle.best_fit.proofs.Common.{SameBytesExcept, bytes_of, read, Storage, current, exchanged, SameBlockExcept}
 use Rattle.best_fit.proofs.Common.{RegrowsOk, Regrows, serves, same_role, Extent, LiveSet, handle, end_of, holds}
 use Rattle.best_fit.proofs.Common.{is_proper, insert, others, added, released, place, regrow, longer, Allocates}
 use Rattle.best_fit.proofs.Common.{AllocatesOk, ChangesBytes, TryExtends, ResizesBlock, IsHeap, Deallocates}
-use Rattle.best_fit.proofs.Common.{EncodesLiveSet}
-use Rattle.best_fit.proofs.Common.{SameBlock, KeepsBlocks, extent_at, has_room, live_of}
+use Rattle.best_fit.proofs.Common.{EncodesLiveSet, SameBlock, KeepsBlocks, extent_at, has_room, live_of}
 use Rattle.std.specs.Prelude.{Ok, Err, MatchResult}
 use Rattle.raw_region.proofs.Laws.{SameBytes-read}
 use Rattle.best_fit.specs.Exchange.{ReplacesBlock, RegrowsNoSpace, Replaces}
@@ -23,8 +19,7 @@ use Rattle.best_fit.proofs.extents.FirstFit.{longer-IsLonger, place-holds}
 use Rattle.best_fit.proofs.extents.Requests.{place-serves}
 use Rattle.best_fit.proofs.extents.Spacing.{IsAlone, in_use, in_use-alone, in_use-all, exchange-back, exchange-moved}
 use Rattle.best_fit.proofs.extents.Spacing.{live-rises, live-spaced, rising-insert, spaced-insert, all_of-insert}
-use Rattle.best_fit.proofs.extents.Spacing.{keeps-of}
-use Rattle.best_fit.proofs.extents.Spacing.{written-keeps}
+use Rattle.best_fit.proofs.extents.Spacing.{keeps-of, written-keeps}
 use Rattle.best_fit.proofs.extents.Inverse.{placed_is_proper}
 
 -- the extent of a block with room

@@ -1,9 +1,8 @@
 -- The gaps of a proper list: each lies between two neighbours, and all are found.
-use Rattle.best_fit.proofs.Common.{◌≡◌, refl, ◌∙◌, ℕ, ◌+◌, ◌-◌, ◌%◌, ◌<◌, ◌≤◌, ◌⊎◌, List, [], ◌∷◌, ◌++◌, arith}
-use Rattle.best_fit.proofs.Common.{nat_lt, ◌==◌, IsTrue, Option, Some, None, All, find, eq-eqb, ne_eqb, lt-ltb}
-use Rattle.best_fit.proofs.Common.{le-ltb, cond-true, cond-false, cases_lt, All-nil, All-cons, All-weaker, All-head}
-use Rattle.best_fit.proofs.Common.{All-tail, inl, inr, Extent, Gap, handle, end_of, gap_between, gaps_from}
-use Rattle.best_fit.proofs.Common.{proper_from, insert}
+use Rattle.best_fit.proofs.Common.{◌≡◌, refl, ◌∙◌, ℕ, ◌+◌, ◌-◌, ◌%◌, ◌<◌, ◌≤◌, ◌⊎◌, List, [], ◌∷◌, ◌++◌, arith, nat_lt}
+use Rattle.best_fit.proofs.Common.{◌==◌, IsTrue, Option, Some, None, All, find, eq-eqb, ne_eqb, lt-ltb, le-ltb}
+use Rattle.best_fit.proofs.Common.{cond-true, cond-false, cases_lt, All-nil, All-cons, All-weaker, All-head, All-tail}
+use Rattle.best_fit.proofs.Common.{inl, inr, Extent, Gap, handle, end_of, gap_between, gaps_from, proper_from, insert}
 use Rattle.std.proofs.lemmas.List.Elements.{All-append}
 use Rattle.best_fit.proofs.extents.Proper.{IsBlock, IsHole, proper_from-IsFirst, IsFirst-proper_from, IsHole-is_hole}
 use Rattle.best_fit.proofs.extents.Proper.{is_hole-IsHole, next_of, proper_from-hole, insert-here, insert-past, behind}

@@ -4,11 +4,10 @@ use Rattle.best_fit.proofs.Common.{◌≡◌, refl, sym, ap, subst, ◌∙◌, �
 use Rattle.best_fit.proofs.Common.{◌&&◌, ◌==◌, Some, None, List, [], ◌∷◌, arith, if◌then◌else◌, inl, inr, IsTrue}
 use Rattle.best_fit.proofs.Common.{nat_lt, ⊤, find, AllByRecursion, list_any, and_parts, leb-true, eqb-true, eq-eqb}
 use Rattle.best_fit.proofs.Common.{ne_eqb, le-leb, and_from, or_left, or_right, or_cases, SameBytesExcept-SameBytes}
-use Rattle.best_fit.proofs.Common.{SameBytesExcept-word}
-use Rattle.best_fit.proofs.Common.{Memory, WindowState, SameBytesExcept, SameSurroundings, bytes_of, inserted}
-use Rattle.best_fit.proofs.Common.{without_all, exchanged}
-use Rattle.best_fit.proofs.Common.{Extent, LiveSet, handle, end_of, holds, is_hole, is_proper, proper_from}
-use Rattle.best_fit.proofs.Common.{is_legal_size, insert, others, added, SameBlock, KeepsBlocks, extent_at, has_room}
+use Rattle.best_fit.proofs.Common.{SameBytesExcept-word, Memory, WindowState, SameBytesExcept, SameSurroundings}
+use Rattle.best_fit.proofs.Common.{bytes_of, inserted, without_all, exchanged, Extent, LiveSet, handle, end_of, holds}
+use Rattle.best_fit.proofs.Common.{is_hole, is_proper, proper_from, is_legal_size, insert, others, added, SameBlock}
+use Rattle.best_fit.proofs.Common.{KeepsBlocks, extent_at, has_room}
 use Rattle.std.proofs.Common.{cond}
 use Rattle.best_fit.proofs.extents.Order.{AllByRecursion-insert_from, insert-comm}
 use Rattle.best_fit.proofs.extents.Proper.{is_hole-IsHole, insert-here, insert-past, others-here, others-past}

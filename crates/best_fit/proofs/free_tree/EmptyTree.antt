@@ -3,26 +3,23 @@ use Rattle.best_fit.proofs.Common.{◌≡◌, refl, sym, ap, subst, ◌∙◌, �
 use Rattle.best_fit.proofs.Common.{◌&&◌, ◌||◌, not, List, [], ◌∷◌, ◌++◌, length, append_assoc, arith, nat_le, ◌==◌}
 use Rattle.best_fit.proofs.Common.{IsTrue, Option, Some, None, is_some, map, AllByRecursion, list_all, false≢true}
 use Rattle.best_fit.proofs.Common.{and_parts, and_from, or_cases, or_left, or_right, append-nil, Memory, WindowState}
-use Rattle.best_fit.proofs.Common.{SameBytesExcept}
-use Rattle.best_fit.proofs.Common.{SameSurroundings, bytes_of, word_at, current, Role, Object, Index, Storage, Node}
-use Rattle.best_fit.proofs.Common.{Tile}
-use Rattle.best_fit.proofs.Common.{is_legal_size, has_tags, is_merged, may_be_red, tag_word, tiles_of, EncodesTiles}
-use Rattle.best_fit.proofs.Common.{good_tags_say_tiles, header_may_change, one_tile_at_an_offset, payload_may_change}
-use Rattle.best_fit.proofs.Common.{tiles_are_read_off, leaf, IsSearchTree, is_in, leads, link_at, SameBytesExcept-link}
-use Rattle.best_fit.proofs.Common.{Gap}
-use Rattle.best_fit.proofs.Common.{cells_of, payloads, comes_before, gap_cells, gap_of, gaps_in, gaps_of, kept_of}
-use Rattle.best_fit.proofs.Common.{links_among, plain, tiles_in, IsGoodHeap, AreSomeGaps, HasGapTree, ChangesGapTree}
+use Rattle.best_fit.proofs.Common.{SameBytesExcept, SameSurroundings, bytes_of, word_at, current, Role, Object, Index}
+use Rattle.best_fit.proofs.Common.{Storage, Node, Tile, is_legal_size, has_tags, is_merged, may_be_red, tag_word}
+use Rattle.best_fit.proofs.Common.{tiles_of, EncodesTiles, good_tags_say_tiles, header_may_change}
+use Rattle.best_fit.proofs.Common.{one_tile_at_an_offset, payload_may_change, tiles_are_read_off, leaf, IsSearchTree}
+use Rattle.best_fit.proofs.Common.{is_in, leads, link_at, SameBytesExcept-link, Gap, cells_of, payloads, comes_before}
+use Rattle.best_fit.proofs.Common.{gap_cells, gap_of, gaps_in, gaps_of, kept_of, links_among, plain, tiles_in}
+use Rattle.best_fit.proofs.Common.{IsGoodHeap, AreSomeGaps, HasGapTree, ChangesGapTree}
 use Rattle.block_tags.specs.Tiles.{are_tags, is_tile}
-use Rattle.best_fit.proofs.tags.RowParts.{row_back, row_end, row_front, row_reaches}
+use Rattle.best_fit.proofs.tags.RowParts.{row_back, row_end, row_front}
 use Rattle.best_fit.proofs.free_tree.Trees.{regrown, rooted}
 use Rattle.best_fit.proofs.gaps.Nodes.{NodeAt, in_around, listed_at, node_from, row_aligned}
 use Rattle.best_fit.proofs.gaps.OneField.{kept_round}
 use Rattle.best_fit.proofs.tags.TagsAndLiveSet.{SaysHeap, said_row}
-use Rattle.best_fit.proofs.tags.TileRows.{Apart, Row, is_merged-Apart, Apart-is_merged, unused, used, use_cases}
-use Rattle.best_fit.proofs.tags.TileRows.{gaps_of-free}
-use Rattle.best_fit.proofs.tags.TileRows.{gaps_of-used}
+use Rattle.best_fit.proofs.tags.TileRows.{Apart, Row, is_merged-Apart, Apart-is_merged}
 use Rattle.best_fit.proofs.tags.UnchangedTags.{all_joined}
-use Rattle.best_fit.proofs.free_tree.WalkTurns.{Ended, Passed, free_if, gaps_past_block, gaps_past_gap}
+use Rattle.best_fit.proofs.free_tree.WalkTurns.{gaps_kept, Ended, Passed, free_if, gaps_past_block, gaps_past_gap}
+use Rattle.best_fit.proofs.free_tree.WalkTurns.{passes}
 use Rattle.best_fit.proofs.tile_walk.Walk.{Turn}
 
 -- ---- tags without red gaps are good tags
@@ -113,40 +110,20 @@ pub cleared_block : (old new next : WindowState) (tile : Tile) (t : Turn new (Cl
 cleared_block old new next tile t some e =
     let z = t.holds in
     let P : WindowState → Type 0 = λ (c : WindowState). Passed c (Cleared old c) tile.offset in
-    subst P (sym e) (record {
-      passed = t.passed;
-      tile = tile;
-      back = t.back;
-      said = t.said;
-      offset = refl;
-      holds = record {
-        list = z.list ∙ sym (append_assoc t.passed (tile ∷ []) t.back);
-        kept = z.kept;
-        size = z.size;
-        null = subst (AllByRecursion (IsNull (bytes_of new.bytes))) (sym (gaps_past_block t.passed tile some)) z.null;
-      };
-    })
+    subst P (sym e) (passes new (Cleared old new) t.passed tile t.back t.said (record {
+      list = z.list ∙ sym (append_assoc t.passed (tile ∷ []) t.back);
+      kept = z.kept;
+      size = z.size;
+      null = subst (AllByRecursion (IsNull (bytes_of new.bytes))) (sym (gaps_past_block t.passed tile some)) z.null;
+    }))
 
 -- null links before the bytes that change stay null
 null_kept : (m m' : Memory) (at : ℕ) (ts : List Tile) (end from n : ℕ) → Row at ts end → end ≤ from
     → SameBytesExcept m m' from n → AllByRecursion (IsNull m) (gaps_of ts) → AllByRecursion (IsNull m') (gaps_of ts)
-null_kept m m' at [] end from n r l same null = tt
-null_kept m m' at (t ∷ ts) end from n r l same null =
-    let o = r.0 in let long = r.1 in let on = row_reaches (at + t.len) ts end r.3 in
-    elim (use_cases t) [
-      | used role e ↦
-          subst (AllByRecursion (IsNull m')) (sym (gaps_of-used t ts role e))
-          (null_kept m m' (at + t.len) ts end from n r.3 l same
-          (subst (AllByRecursion (IsNull m)) (gaps_of-used t ts role e) null))
-      | unused e ↦
-          let all : AllByRecursion (IsNull m) (gap_of t ∷ gaps_of ts) = subst (AllByRecursion (IsNull m))
-          (gaps_of-free t ts e) null in
-          let left = SameBytesExcept-link m m' from n (t.offset + 16) same (inl (omega arith)) in
-          let right = SameBytesExcept-link m m' from n (t.offset + 16 + 8) same (inl (omega arith)) in
-          let both : AllByRecursion (IsNull m') (gap_of t ∷ gaps_of ts) =
-          ((left ∙ all.0.0, right ∙ all.0.1), null_kept m m' (at + t.len) ts end from n r.3 l same all.1) in
-          subst (AllByRecursion (IsNull m')) (sym (gaps_of-free t ts e)) both
-    ]
+null_kept m m' at ts end from n r l same = gaps_kept (IsNull m) (IsNull m') at ts end r (λ t long high z. (
+  SameBytesExcept-link m m' from n (t.offset + 16) same (inl (omega arith)) ∙ z.0,
+  SameBytesExcept-link m m' from n (t.offset + 16 + 8) same (inl (omega arith)) ∙ z.1,
+))
 
 -- the links of a gap are made null, and it is passed
 module _ (old new next : WindowState) (tile : Tile) (t : Turn new (Cleared old new) tile)
@@ -195,19 +172,12 @@ module _ (old new next : WindowState) (tile : Tile) (t : Turn new (Cleared old n
   -- a gap whose links are made null: the turn is done
   pub cleared_gap : Passed next (Cleared old next) tile.offset
   cleared_gap =
-      record {
-        passed = t.passed;
-        tile = tile;
-        back = t.back;
-        said = says_next;
-        offset = refl;
-        holds = record {
-          list = t.holds.list ∙ sym (append_assoc t.passed (tile ∷ []) t.back);
-          kept = kept ∙ t.holds.kept;
-          size = size ∙ t.holds.size;
-          null = subst (AllByRecursion (IsNull (bytes_of next.bytes))) (sym (gaps_past_gap t.passed tile free)) null;
-        };
-      }
+      passes next (Cleared old next) t.passed tile t.back says_next (record {
+        list = t.holds.list ∙ sym (append_assoc t.passed (tile ∷ []) t.back);
+        kept = kept ∙ t.holds.kept;
+        size = size ∙ t.holds.size;
+        null = subst (AllByRecursion (IsNull (bytes_of next.bytes))) (sym (gaps_past_gap t.passed tile free)) null;
+      })
 
 -- ---- the tree is empty
 

@@ -1,8 +1,7 @@
 -- The point at which the removal of a gap from the tree begins, by a search for it.
-use Rattle.best_fit.proofs.Common.{◌≡◌, sym, ap, ◌∙◌, ℕ, true, List, Option, Some, None, IfSome}
-use Rattle.best_fit.proofs.Common.{WindowState, bytes_of, Tree, IsSearchTree, nodes_of, first_not_before, is_in}
-use Rattle.best_fit.proofs.Common.{link_at, Gap, payloads, sorted_gaps}
-use Rattle.best_fit.proofs.Common.{comes_before, gap_cells, gaps_in, own_probe, stands_before, HasGapTree}
+use Rattle.best_fit.proofs.Common.{◌≡◌, sym, ap, ◌∙◌, ℕ, true, List, Option, Some, None, IfSome, WindowState, bytes_of}
+use Rattle.best_fit.proofs.Common.{Tree, IsSearchTree, nodes_of, first_not_before, is_in, link_at, Gap, payloads}
+use Rattle.best_fit.proofs.Common.{sorted_gaps, comes_before, gap_cells, gaps_in, own_probe, stands_before, HasGapTree}
 use Rattle.best_fit.proofs.Common.{CanBeginRemoval}
 use Rattle.link_tree.specs.Ways.{remove_point_of}
 use Rattle.link_tree.proofs.Laws.{first_itself}

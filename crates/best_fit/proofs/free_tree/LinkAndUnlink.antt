@@ -2,26 +2,23 @@
 use Rattle.best_fit.proofs.Common.{◌≡◌, refl, sym, ap, subst, ◌∙◌, ℕ, ◌+◌, ◌-◌, ◌≤◌, ◌⊎◌, inl, inr, Bool, true, ◌&&◌}
 use Rattle.best_fit.proofs.Common.{List, ◌∷◌, ◌++◌, length, arith, IsTrue, Option, Some, None, map, list_all}
 use Rattle.best_fit.proofs.Common.{false≢true, both_ways, cases_eq, and_from, WindowState, SameBytesExcept}
-use Rattle.best_fit.proofs.Common.{SameSurroundings, bytes_of, Tile}
-use Rattle.best_fit.proofs.Common.{is_legal_size, EncodesTiles, good_tags_say_tiles, header_may_change}
-use Rattle.best_fit.proofs.Common.{payload_may_change, tiles_are_read_off, Cell, Tree, leaf, fork, IsTree}
+use Rattle.best_fit.proofs.Common.{SameSurroundings, bytes_of, Tile, is_legal_size, EncodesTiles, good_tags_say_tiles}
+use Rattle.best_fit.proofs.Common.{header_may_change, payload_may_change, tiles_are_read_off, Cell, Tree, leaf, fork}
 use Rattle.best_fit.proofs.Common.{IsSearchTree, nodes_of, bits, is_in, leads, insert_in_order, without}
-use Rattle.best_fit.proofs.Common.{is_ordered_with, tree_same}
-use Rattle.best_fit.proofs.Common.{all_from, link_at, SameBytesExcept-link, Gap, cells_of, payloads, sorted_gaps}
-use Rattle.best_fit.proofs.Common.{GapTreeFrame}
-use Rattle.best_fit.proofs.Common.{comes_before, gap_cells, gaps_of, gaps_in, is_gap_node, kept_of, links_among}
-use Rattle.best_fit.proofs.Common.{plain, tiles_in, IsGoodHeap, GapNode-is_gap_node, IsGoodHeap-is_good}
-use Rattle.best_fit.proofs.Common.{is_good-IsGoodHeap}
-use Rattle.best_fit.proofs.Common.{is_gap_node-GapNode, AreSomeGaps, HasGapTree, LacksGap, ChangesGapTree, node_of}
+use Rattle.best_fit.proofs.Common.{is_ordered_with, all_from, link_at, SameBytesExcept-link, Gap, cells_of}
+use Rattle.best_fit.proofs.Common.{payloads, sorted_gaps, GapTreeFrame, comes_before, gap_cells, gaps_of, gaps_in}
+use Rattle.best_fit.proofs.Common.{is_gap_node, kept_of, links_among, plain, tiles_in, IsGoodHeap, GapNode-is_gap_node}
+use Rattle.best_fit.proofs.Common.{IsGoodHeap-is_good, is_good-IsGoodHeap, is_gap_node-GapNode, AreSomeGaps, HasGapTree}
+use Rattle.best_fit.proofs.Common.{LacksGap, ChangesGapTree, node_of}
 use Rattle.raw_region.proofs.Laws.{SameBytesExcept-wider}
 use Rattle.link_tree.specs.Tree.{root_of, AreCellsOf}
 use Rattle.link_tree.proofs.Laws.{bits_most, in_left, in_middle, in_parts, in_right}
 use Rattle.best_fit.specs.GapLaws.{few_gaps_in}
 use Rattle.best_fit.proofs.free_tree.Trees.{all_gaps, fits_one, in_here, in_other, none_in, none_front, none_round}
-use Rattle.best_fit.proofs.free_tree.Trees.{regrown}
-use Rattle.best_fit.proofs.free_tree.Trees.{rooted, search_tree, some_drop}
+use Rattle.best_fit.proofs.free_tree.Trees.{regrown, rooted, search_tree, some_drop}
 use Rattle.best_fit.proofs.gaps.Nodes.{NodeAt, node_from, nodes_apart, said_of}
-use Rattle.best_fit.proofs.gaps.Order.{fits-sorted, in_sorted, place_sorted, put_is, sorted-around, without-inserted}
+use Rattle.best_fit.proofs.gaps.Order.{gap_tree_stays, fits-sorted, in_sorted, place_sorted, put_is, sorted-around}
+use Rattle.best_fit.proofs.gaps.Order.{without-inserted}
 use Rattle.best_fit.proofs.gaps.Setters.{beside_cell}
 use Rattle.best_fit.proofs.gaps.OneField.{kept_round, same_gaps}
 use Rattle.best_fit.proofs.tags.TagsAndLiveSet.{legal_size}
@@ -255,15 +252,8 @@ module _ (c a b : WindowState) (xs : List Gap) (g : Gap) (ys : List Gap) (node :
       record {
         good = IsGoodHeap-is_good b good_b;
         some = subst (λ (gs : List Gap). AreSomeGaps gs (xs ++ ys)) (sym gaps_b) some_rest;
-        tree = record {
-          tree = l.tree.tree;
-          linked = subst (λ (o : Option ℕ). IsTree (cells_of (bytes_of b.bytes)) o l.tree.tree) (sym root)
-              (tree_same (cells_of (bytes_of c.bytes)) (cells_of (bytes_of b.bytes))
-              (link_at (bytes_of c.bytes) 24) l.tree.tree (λ m i.
-              other_cell m (some_rest.listed m (in_tree m i)) (not_node m (in_tree m i))) l.tree.linked);
-          red_black = l.tree.red_black;
-          lists = l.tree.lists;
-        };
+        tree = gap_tree_stays (bytes_of c.bytes) (bytes_of b.bytes) (xs ++ ys) root
+            (λ m i. other_cell m (some_rest.listed m i) (not_node m i)) l.tree;
       }
 
 -- ---- insertion

@@ -1,15 +1,13 @@
 -- The gaps of a window are put into a tree, one after the other.
-use Rattle.best_fit.proofs.Common.{◌≡◌, refl, sym, ap, subst, ◌∙◌, ℕ, ◌+◌, ◌⊎◌, inl, inr, true, false, List, [], ◌∷◌}
+use Rattle.best_fit.proofs.Common.{◌≡◌, sym, ap, subst, ◌∙◌, ℕ, ◌+◌, ◌⊎◌, inl, inr, true, false, List, [], ◌∷◌}
 use Rattle.best_fit.proofs.Common.{◌++◌, length, append_assoc, length-append, arith, ◌==◌, Option, None, is_some, map}
 use Rattle.best_fit.proofs.Common.{false≢true, or_cases, or_left, or_right, append-nil, WindowState, SameBytesExcept}
-use Rattle.best_fit.proofs.Common.{bytes_of}
-use Rattle.best_fit.proofs.Common.{current, Tile, EncodesTiles, tiles_are_read_off, Tree, IsSearchTree, nodes_of}
-use Rattle.best_fit.proofs.Common.{is_ordered_with, is_in, insert_in_order, link_at, Gap, payloads, sorted_gaps}
-use Rattle.best_fit.proofs.Common.{comes_before}
-use Rattle.best_fit.proofs.Common.{gap_cells, gap_of, gaps_in, gaps_of, is_gap_node, kept_of, plain, tiles_in}
-use Rattle.best_fit.proofs.Common.{GapNode-is_gap_node, is_good-IsGoodHeap, AreSomeGaps, HaveGapLengths, HasGapTree}
-use Rattle.best_fit.proofs.Common.{ChangesGapTree, AreAscending, node_of}
-use Rattle.best_fit.proofs.Common.{IsHeap, EncodesLiveSet, AreBytes}
+use Rattle.best_fit.proofs.Common.{bytes_of, current, Tile, EncodesTiles, tiles_are_read_off, Tree, IsSearchTree}
+use Rattle.best_fit.proofs.Common.{nodes_of, is_ordered_with, is_in, insert_in_order, link_at, Gap, payloads}
+use Rattle.best_fit.proofs.Common.{sorted_gaps, comes_before, gap_cells, gap_of, gaps_in, gaps_of, is_gap_node, kept_of}
+use Rattle.best_fit.proofs.Common.{plain, tiles_in, GapNode-is_gap_node, is_good-IsGoodHeap, AreSomeGaps}
+use Rattle.best_fit.proofs.Common.{HaveGapLengths, HasGapTree, ChangesGapTree, AreAscending, node_of, IsHeap}
+use Rattle.best_fit.proofs.Common.{EncodesLiveSet, AreBytes}
 use Rattle.best_fit.specs.Rebuilding.{IsNextGap, RebuildsFreeTree}
 use Rattle.best_fit.proofs.gaps.BesideNodes.{beside_gaps, free_bytes}
 use Rattle.best_fit.proofs.free_tree.Trees.{all_gaps, in_here}
@@ -21,7 +19,7 @@ use Rattle.best_fit.proofs.allocation.GapToBlock.{lays_out}
 use Rattle.best_fit.proofs.gaps.LinksOnly.{SplitsAlike, regrown_keeps, regrown_live, splits_alike, tree_says}
 use Rattle.best_fit.proofs.free_tree.LinkAndUnlink.{grown_place, grown_tree}
 use Rattle.best_fit.proofs.tags.TileRows.{gaps_of-append, gaps_of-free}
-use Rattle.best_fit.proofs.free_tree.WalkTurns.{Ended, Passed, free_if, gaps_past_block}
+use Rattle.best_fit.proofs.free_tree.WalkTurns.{Ended, Passed, free_if, gaps_past_block, passes}
 use Rattle.best_fit.proofs.tile_walk.Walk.{Turn}
 use Rattle.best_fit.proofs.free_tree.UnlinkIfGap.{regrown-refl}
 
@@ -119,17 +117,10 @@ pub planted_block : (old new next : WindowState) (tile : Tile) (t : Turn new (Ha
     → is_some tile.use_of ≡ true → next ≡ new → Passed next (HasPlanted old next) tile.offset
 planted_block old new next tile t some e =
     let P : WindowState → Type 0 = λ (c : WindowState). Passed c (HasPlanted old c) tile.offset in
-    subst P (sym e) (record {
-      passed = t.passed;
-      tile = tile;
-      back = t.back;
-      said = t.said;
-      offset = refl;
-      holds = record {
-        change = t.holds.change;
-        tree = subst (HasGapTree new) (sym (gaps_past_block t.passed tile some)) t.holds.tree;
-      };
-    })
+    subst P (sym e) (passes new (HasPlanted old new) t.passed tile t.back t.said (record {
+      change = t.holds.change;
+      tree = subst (HasGapTree new) (sym (gaps_past_block t.passed tile some)) t.holds.tree;
+    }))
 
 -- a gap is put into the tree, and passed
 module _ (old new : WindowState) (tile : Tile) (t : Turn new (HasPlanted old new) tile)

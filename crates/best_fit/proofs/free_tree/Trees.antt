@@ -4,16 +4,13 @@ use Rattle.best_fit.proofs.Common.{true, false, ◌&&◌, ◌||◌, List, [], �
 use Rattle.best_fit.proofs.Common.{length-append, append_assoc, Option, Some, None, map, if◌then◌else◌, list_all}
 use Rattle.best_fit.proofs.Common.{cases_Bool, or_cases, or_left, or_right, eqb-true, eq-eqb, cond-true, cond_both}
 use Rattle.best_fit.proofs.Common.{WindowState, SameBytesExcept, SameSurroundings, bytes_of, SameBytesExcept-word, Tile}
-use Rattle.best_fit.proofs.Common.{is_legal_size, EncodesTiles}
-use Rattle.best_fit.proofs.Common.{good_tags_say_tiles, header_may_change, tiles_are_read_off, Cell, Tree, IsTree}
-use Rattle.best_fit.proofs.Common.{IsSearchTree, nodes_of, is_sorted, is_in, leads, tree_same, all_from, link_at}
-use Rattle.best_fit.proofs.Common.{SameBytesExcept-link, Gap, precedes, cells_of, insert_gap, payloads, sorted_gaps}
-use Rattle.best_fit.proofs.Common.{GapTreeFrame}
-use Rattle.best_fit.proofs.Common.{comes_before, gap_cells, gap_of, gaps_of, gaps_in, is_gap_node, is_kept, kept_of}
-use Rattle.best_fit.proofs.Common.{len_in, links_among, plain, tiles_in, IsGoodHeap, GapNode-is_gap_node}
-use Rattle.best_fit.proofs.Common.{IsGoodHeap-is_good}
-use Rattle.best_fit.proofs.Common.{is_good-IsGoodHeap, links_at, cells_at, AreSomeGaps, HaveGapLengths, HasGapTree}
-use Rattle.best_fit.proofs.Common.{ChangesGapTree}
+use Rattle.best_fit.proofs.Common.{is_legal_size, EncodesTiles, good_tags_say_tiles, header_may_change}
+use Rattle.best_fit.proofs.Common.{tiles_are_read_off, Cell, Tree, IsTree, IsSearchTree, nodes_of, is_sorted, is_in}
+use Rattle.best_fit.proofs.Common.{leads, tree_same, all_from, link_at, SameBytesExcept-link, Gap, precedes, cells_of}
+use Rattle.best_fit.proofs.Common.{insert_gap, payloads, sorted_gaps, GapTreeFrame, comes_before, gap_cells, gap_of}
+use Rattle.best_fit.proofs.Common.{gaps_of, gaps_in, is_gap_node, is_kept, kept_of, len_in, links_among, plain}
+use Rattle.best_fit.proofs.Common.{tiles_in, IsGoodHeap, GapNode-is_gap_node, IsGoodHeap-is_good, is_good-IsGoodHeap}
+use Rattle.best_fit.proofs.Common.{links_at, cells_at, AreSomeGaps, HaveGapLengths, HasGapTree, ChangesGapTree}
 use Rattle.best_fit.proofs.Common.{AreAscending}
 use Rattle.link_tree.proofs.Laws.{root_in}
 use Rattle.best_fit.specs.GapLaws.{length-payloads}

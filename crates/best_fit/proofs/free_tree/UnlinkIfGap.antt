@@ -1,10 +1,8 @@
 -- A tile that is free is removed from the tree; any other tile is not in the tree.
 use Rattle.best_fit.proofs.Common.{◌≡◌, refl, sym, ap, subst, ◌∙◌, ℕ, ◌+◌, ◌≤◌, true, List, [], ◌∷◌, ◌++◌, length}
 use Rattle.best_fit.proofs.Common.{arith, Option, Some, None, cond-true, cond-false, same_Some, WindowState, Tile}
-use Rattle.best_fit.proofs.Common.{is_free}
-use Rattle.best_fit.proofs.Common.{is_in, none_some, Gap, payloads, gaps_of, is_good-IsGoodHeap, HasGapTree}
-use Rattle.best_fit.proofs.Common.{ChangesGapTree}
-use Rattle.best_fit.proofs.Common.{gap_offset, tile_list, offset_of}
+use Rattle.best_fit.proofs.Common.{is_free, is_in, none_some, Gap, payloads, gaps_of, is_good-IsGoodHeap, HasGapTree}
+use Rattle.best_fit.proofs.Common.{ChangesGapTree, gap_offset, tile_list, offset_of}
 use Rattle.best_fit.proofs.free_tree.Trees.{in_here}
 use Rattle.best_fit.proofs.gaps.Nodes.{node_at}
 use Rattle.best_fit.proofs.tags.TileRows.{unused, used, use_cases, unused-free, used-not_free, gaps_of-free}

@@ -1,9 +1,10 @@
 -- A walk over the tiles of a window that changes on the way: each turn passes one tile.
-use Rattle.best_fit.proofs.Common.{◌≡◌, sym, ap, subst, ◌∙◌, ℕ, ◌-◌, ◌<◌, true, false, List, [], ◌∷◌, ◌++◌, length}
+use Rattle.best_fit.proofs.Common.{◌≡◌, refl, sym, ap, subst, ◌∙◌, ℕ, ◌+◌, ◌-◌, ◌<◌, ◌≤◌, true, false, List, [], ◌∷◌}
+use Rattle.best_fit.proofs.Common.{◌++◌, length, arith, AllByRecursion}
 use Rattle.best_fit.proofs.Common.{Option, Some, None, is_some, both_ways, append-nil, WindowState, Tile, first_in}
-use Rattle.best_fit.proofs.Common.{next_in}
-use Rattle.best_fit.proofs.Common.{HasTileAt, EncodesTiles, Gap, gap_of, gaps_of}
-use Rattle.best_fit.proofs.tags.TileRows.{unused, used, use_cases, gaps_of-append, gaps_of-free, gaps_of-used}
+use Rattle.best_fit.proofs.Common.{next_in, HasTileAt, EncodesTiles, Gap, gap_of, gaps_of}
+use Rattle.best_fit.proofs.tags.RowParts.{row_reaches}
+use Rattle.best_fit.proofs.tags.TileRows.{Row, unused, used, use_cases, gaps_of-append, gaps_of-free, gaps_of-used}
 use Rattle.best_fit.proofs.tile_walk.Walk.{Walk, meets, next_here, next_nearer, none_left, passed_on, to_go}
 
 -- the walk begins with all tiles ahead
@@ -19,6 +20,19 @@ pub record Passed (c : WindowState) (P : List Tile → List Tile → Type 0) (at
   pub said : EncodesTiles c (passed ++ (tile ∷ back))
   pub offset : tile.offset ≡ at
   pub holds : P (passed ++ (tile ∷ [])) back
+
+-- a tile of the walk is passed
+pub passes : (c : WindowState) (P : List Tile → List Tile → Type 0) (passed : List Tile) (tile : Tile)
+    (back : List Tile) → EncodesTiles c (passed ++ (tile ∷ back)) → P (passed ++ (tile ∷ [])) back
+    → Passed c P tile.offset
+passes c P passed tile back said holds = record {
+  passed = passed;
+  tile = tile;
+  back = back;
+  said = said;
+  offset = refl;
+  holds = holds;
+}
 
 -- the tile that was passed is there
 pub passed_has : (c : WindowState) (P : List Tile → List Tile → Type 0) (at : ℕ) → Passed c P at → HasTileAt c at
@@ -101,3 +115,20 @@ pub gaps_past_gap : (passed : List Tile) (t : Tile) → t.use_of ≡ None → ga
     passed ++ (gap_of t ∷ [])
 gaps_past_gap passed t free = gaps_of-append passed (t ∷ []) ∙ ap (λ (gs : List Gap). gaps_of passed ++ gs)
     (gaps_of-free t [] free)
+
+-- a property of the gaps of a row that each of them keeps
+pub gaps_kept : (P Q : Gap → Type 0) (at : ℕ) (ts : List Tile) (end : ℕ) → Row at ts end
+    → ((t : Tile) → 32 ≤ t.len → t.offset + t.len ≤ end → P (gap_of t) → Q (gap_of t))
+    → AllByRecursion P (gaps_of ts) → AllByRecursion Q (gaps_of ts)
+gaps_kept P Q at [] end r f h = tt
+gaps_kept P Q at (t ∷ ts) end r f h =
+    let o = r.0 in let long = r.1 in let on = row_reaches (at + t.len) ts end r.3 in
+    elim (use_cases t) [
+      | used role e ↦ subst (AllByRecursion Q) (sym (gaps_of-used t ts role e))
+          (gaps_kept P Q (at + t.len) ts end r.3 f (subst (AllByRecursion P) (gaps_of-used t ts role e) h))
+      | unused e ↦
+          let all : AllByRecursion P (gap_of t ∷ gaps_of ts) = subst (AllByRecursion P) (gaps_of-free t ts e) h in
+          let both : AllByRecursion Q (gap_of t ∷ gaps_of ts) =
+          (f t long (omega arith) all.0, gaps_kept P Q (at + t.len) ts end r.3 f all.1) in
+          subst (AllByRecursion Q) (sym (gaps_of-free t ts e)) both
+    ]

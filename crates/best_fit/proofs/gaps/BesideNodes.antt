@@ -1,9 +1,8 @@
 -- If only links and colours of gaps and word 24 change, all bytes outside the gaps stay, and with them the bytes of
 -- tags.
-use Rattle.best_fit.proofs.Common.{◌≡◌, refl, sym, ap, subst, ◌∙◌, ℕ, zero, suc, ◌+◌, ◌-◌, ◌*◌, ◌<◌, ◌≤◌, ◌⊎◌, inl}
-use Rattle.best_fit.proofs.Common.{inr, List, [], ◌∷◌, length, arith, nat_lt, Some, map, AllByRecursion, cases_lt}
-use Rattle.best_fit.proofs.Common.{lt-ltb, or_left, Memory, WindowState, SameBytes, bytes_of, word_at, current, Role}
-use Rattle.best_fit.proofs.Common.{Tile}
+use Rattle.best_fit.proofs.Common.{◌≡◌, refl, sym, ap, subst, ◌∙◌, ℕ, zero, suc, ◌+◌, ◌-◌, ◌*◌, ◌<◌, ◌≤◌, ◌⊎◌, inl, inr}
+use Rattle.best_fit.proofs.Common.{List, [], ◌∷◌, length, arith, nat_lt, Some, map, AllByRecursion, cases_lt, lt-ltb}
+use Rattle.best_fit.proofs.Common.{or_left, Memory, WindowState, SameBytes, bytes_of, word_at, current, Role, Tile}
 use Rattle.best_fit.proofs.Common.{AreTags, is_free, tag_word, EncodesTiles, gaps, gap_of, gaps_of, lies_behind, plain}
 use Rattle.best_fit.proofs.Common.{true, tiles_in, ChangesGapTree, live_of, AreBytes, Gap, Option}
 use Rattle.best_fit.specs.Rebuilding.{IsBesideGap}

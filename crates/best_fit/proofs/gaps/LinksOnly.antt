@@ -1,17 +1,14 @@
 -- What stays where only links and colours of gaps, and word 24, change.
-use Rattle.best_fit.proofs.Common.{if◌then◌else◌, SameBytes}
-use Rattle.best_fit.proofs.Common.{◌≡◌, refl, sym, ap, subst, ◌∙◌, ℕ, ◌+◌, ◌-◌, ◌%◌, ◌<◌, ◌≤◌, ◌⊎◌, inl, inr, Bool}
-use Rattle.best_fit.proofs.Common.{true, false, ◌&&◌, not, List, [], ◌∷◌, ◌++◌, length, arith, nat_lt, nat_le, Some}
-use Rattle.best_fit.proofs.Common.{map, cons_option, and_from, or_left, or_right, le-leb, lt-ltb, WindowState, bytes_of}
-use Rattle.best_fit.proofs.Common.{word_at, Role, Tile, current, SameBytes-word, tile_in, is_free, EncodesTiles}
-use Rattle.best_fit.proofs.Common.{SameExceptTags, target_of, Gap, cells_of, lies_behind, own_from, plain, tiles_in}
-use Rattle.best_fit.proofs.Common.{is_good-IsGoodHeap, HasGapTree, ChangesGapTree, KeepsBlocks, SameBlock, as_extent}
-use Rattle.best_fit.proofs.Common.{live_of}
-use Rattle.best_fit.proofs.gaps.Nodes.{apart_of, said_of, tile_colour}
-use Rattle.best_fit.proofs.gaps.Setters.{cell_stays}
+use Rattle.best_fit.proofs.Common.{if◌then◌else◌, SameBytes, ◌≡◌, refl, sym, ap, subst, ◌∙◌, ℕ, ◌+◌, ◌-◌, ◌%◌, ◌<◌, ◌≤◌}
+use Rattle.best_fit.proofs.Common.{◌⊎◌, inl, inr, Bool, true, false, ◌&&◌, not, List, [], ◌∷◌, ◌++◌, length, arith}
+use Rattle.best_fit.proofs.Common.{nat_lt, nat_le, Some, map, cons_option, and_from, or_left, or_right, le-leb, lt-ltb}
+use Rattle.best_fit.proofs.Common.{WindowState, bytes_of, word_at, Role, Tile, current, is_free, EncodesTiles, Gap}
+use Rattle.best_fit.proofs.Common.{lies_behind, own_from, plain, tiles_in, is_good-IsGoodHeap, HasGapTree}
+use Rattle.best_fit.proofs.Common.{ChangesGapTree, KeepsBlocks, SameBlock, as_extent, live_of}
+use Rattle.best_fit.proofs.gaps.Nodes.{apart_of, said_of}
 use Rattle.best_fit.proofs.tags.TagsAndLiveSet.{SaysHeap, said_row}
 use Rattle.best_fit.proofs.tags.TileRows.{Row, extents_of, extent_of, used-not_free}
-use Rattle.best_fit.proofs.tags.UnchangedTags.{In, inside, tag_in, all_used}
+use Rattle.best_fit.proofs.tags.UnchangedTags.{In, all_used, inside, tag_in}
 
 -- the tags of a window with a tree describe its tiles
 pub tree_says : (c : WindowState) (hs : List Gap) → HasGapTree c hs → SaysHeap c (tiles_in c)
@@ -176,28 +173,3 @@ splits_alike (u ∷ us) (f ∷ fs) t back e =
       tiles = r.tiles;
       backs = r.backs;
     }
-
--- ---- a gap before and after the change
-
-module _ (old new : WindowState) (ts us : List Tile) (said : EncodesTiles old ts) (says : EncodesTiles new us)
-    (same : SameExceptTags old new ts us) (u : Tile) (m : ℕ) (i : In u ts) (j : In u us)
-    (at : u.offset + 16 ≡ m) (long : 32 ≤ u.len)
-    (here : tile_in ts u.offset ≡ Some u) (there : tile_in us u.offset ≡ Some u) where
-  word_stays : (k : ℕ) → m ≤ k → k + 8 ≤ m + 16 → word_at (bytes_of new.bytes) k ≡ word_at (bytes_of old.bytes) k
-  word_stays k low high =
-      let new_row : Row 128 us (length old.bytes - 16) = subst (λ n. Row 128 us (n - 16)) same.size
-      (said_row new us says) in
-      SameBytes-word (bytes_of old.bytes) (bytes_of new.bytes) k (k + 8) k (record {
-        at = λ l a b.
-            let p = inside 128 u ts (length old.bytes - 16) l (said_row old ts said) i (omega arith) (omega arith) in
-            let q = inside 128 u us (length old.bytes - 16) l new_row j (omega arith) (omega arith) in
-            same.bytes l p.beside q.beside p.high;
-      }) (omega arith) (omega arith)
-
-  -- the cell of a node stays
-  pub step_cell : cells_of (bytes_of new.bytes) m ≡ cells_of (bytes_of old.bytes) m
-  step_cell =
-      cell_stays (bytes_of old.bytes) (bytes_of new.bytes) m
-      (ap (target_of m) (word_stays m (omega arith) (omega arith)))
-      (ap (target_of (m + 8)) (word_stays (m + 8) (omega arith) (omega arith)))
-      (tile_colour new us u m says there at ∙ sym (tile_colour old ts u m said here at))

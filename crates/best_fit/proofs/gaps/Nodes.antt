@@ -3,10 +3,9 @@ use Rattle.best_fit.proofs.Common.{◌≡◌, refl, sym, ap, subst, ◌∙◌, �
 use Rattle.best_fit.proofs.Common.{false, List, [], ◌∷◌, ◌++◌, length, arith, ◌==◌, Option, Some, None, find}
 use Rattle.best_fit.proofs.Common.{false≢true, or_cases, or_left, or_right, eqb-true, eq-eqb, ne_eqb, cond-true}
 use Rattle.best_fit.proofs.Common.{cond-false, same_Some, WindowState, bytes_of, word_at, Tile, tile_in, tile_at}
-use Rattle.best_fit.proofs.Common.{HasTileAt}
-use Rattle.best_fit.proofs.Common.{EncodesTiles, good_tags_say_tiles, one_tile_at_an_offset, tile_is_read_off}
-use Rattle.best_fit.proofs.Common.{tiles_are_read_off, is_in, Gap, is_red, payloads, gap_of, gaps_of, gaps_in, len_in}
-use Rattle.best_fit.proofs.Common.{tiles_in, IsGoodHeap, GapNode}
+use Rattle.best_fit.proofs.Common.{HasTileAt, EncodesTiles, good_tags_say_tiles, one_tile_at_an_offset}
+use Rattle.best_fit.proofs.Common.{tile_is_read_off, tiles_are_read_off, is_in, Gap, is_red, payloads, gap_of, gaps_of}
+use Rattle.best_fit.proofs.Common.{gaps_in, len_in, tiles_in, IsGoodHeap, GapNode}
 use Rattle.best_fit.proofs.tags.RowParts.{row_reaches}
 use Rattle.best_fit.proofs.tags.TagsAndLiveSet.{said_row, legal_size}
 use Rattle.best_fit.proofs.tags.TileRows.{Row, Apart, is_merged-Apart, unused, used, use_cases, gaps_of-free}

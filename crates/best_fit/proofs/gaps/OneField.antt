@@ -1,17 +1,15 @@
 -- One field of a gap changes: the nodes, their order, the other cells and all else stay.
 use Rattle.best_fit.proofs.Common.{◌≡◌, refl, sym, ap, subst, ◌∙◌, ℕ, ◌+◌, ◌-◌, ◌<◌, ◌≤◌, ◌⊎◌, inl, inr, Bool, true}
 use Rattle.best_fit.proofs.Common.{false, ◌&&◌, ◌||◌, not, List, [], ◌∷◌, length, arith, nat_lt, nat_le, ◌==◌, IsTrue}
-use Rattle.best_fit.proofs.Common.{Option, None, map, if◌then◌else◌, list_all, cons_option, false≢true}
-use Rattle.best_fit.proofs.Common.{cases_Bool, cases_eq, and_parts, or_cases, eq-eqb, ne_eqb, leb-true, ltb-true}
-use Rattle.best_fit.proofs.Common.{cond-true, cond-false, WindowState, SameSurroundings, bytes_of, Tile, is_legal_size}
-use Rattle.best_fit.proofs.Common.{IsBesideTags}
-use Rattle.best_fit.proofs.Common.{is_free, is_merged, EncodesTiles, good_tags_say_tiles, tiles_are_read_off, Cell}
-use Rattle.best_fit.proofs.Common.{is_in, leads, all_from, Gap, cells_of, payloads, as_gap, comes_before, gap_cells}
-use Rattle.best_fit.proofs.Common.{gaps_of, gaps_in, is_gap_node, is_kept, kept_of, lies_behind, own_from}
-use Rattle.best_fit.proofs.Common.{stands_before}
-use Rattle.best_fit.proofs.Common.{links_among, plain, tiles_in, IsGoodHeap, GapNode, GapNode-is_gap_node}
-use Rattle.best_fit.proofs.Common.{IsGoodHeap-is_good}
-use Rattle.best_fit.proofs.Common.{is_gap_node-GapNode, links_at, cells_at}
+use Rattle.best_fit.proofs.Common.{Option, None, map, if◌then◌else◌, list_all, cons_option, false≢true, cases_Bool}
+use Rattle.best_fit.proofs.Common.{cases_eq, and_parts, or_cases, eq-eqb, ne_eqb, leb-true, ltb-true, cond-true}
+use Rattle.best_fit.proofs.Common.{cond-false, WindowState, SameSurroundings, bytes_of, Tile, is_legal_size}
+use Rattle.best_fit.proofs.Common.{IsBesideTags, is_free, is_merged, EncodesTiles, good_tags_say_tiles}
+use Rattle.best_fit.proofs.Common.{tiles_are_read_off, Cell, is_in, leads, all_from, Gap, cells_of, payloads, as_gap}
+use Rattle.best_fit.proofs.Common.{comes_before, gap_cells, gaps_of, gaps_in, is_gap_node, is_kept, kept_of}
+use Rattle.best_fit.proofs.Common.{lies_behind, own_from, stands_before, links_among, plain, tiles_in, IsGoodHeap}
+use Rattle.best_fit.proofs.Common.{GapNode, GapNode-is_gap_node, IsGoodHeap-is_good, is_gap_node-GapNode, links_at}
+use Rattle.best_fit.proofs.Common.{cells_at}
 use Rattle.best_fit.specs.GapNodes.{is_good}
 use Rattle.best_fit.specs.GapLaws.{cells_off}
 use Rattle.best_fit.proofs.gaps.Nodes.{Disjoint, NodeAt, node_at, row_disjoint}

@@ -5,11 +5,9 @@ use Rattle.best_fit.proofs.Common.{None, filter, find, option_map, if◌then◌e
 use Rattle.best_fit.proofs.Common.{cases_Bool, cases_eq, cases_lt, and_from, or_left, or_right, leb-true, le-leb}
 use Rattle.best_fit.proofs.Common.{eq-eqb, ne_eqb, cond-true, cond-false, cond_both, lt-ltb, le-ltb, lt-leb, is_sorted}
 use Rattle.best_fit.proofs.Common.{first_not_before, is_ordered_with, is_in, insert_in_order, without, Gap, least}
-use Rattle.best_fit.proofs.Common.{precedes}
-use Rattle.best_fit.proofs.Common.{insert_gap}
-use Rattle.best_fit.proofs.Common.{payloads, sorted_gaps, comes_before, from_first, len_in, stands_before}
-use Rattle.best_fit.proofs.Common.{HaveGapLengths, AreAscending, is_long}
-use Rattle.best_fit.proofs.Common.{node_of}
+use Rattle.best_fit.proofs.Common.{precedes, insert_gap, payloads, sorted_gaps, comes_before, from_first, len_in}
+use Rattle.best_fit.proofs.Common.{stands_before, HaveGapLengths, AreAscending, is_long, node_of, Memory, IsTree}
+use Rattle.best_fit.proofs.Common.{IsTreeOf, cells_of, link_at, tree_same}
 use Rattle.link_tree.proofs.Laws.{rises_put, without_none}
 use Rattle.best_fit.specs.GapLaws.{Comes, comes, comes-Comes, Comes-comes, comes-false, comes-trans, comes_transitive}
 
@@ -126,6 +124,20 @@ in_inserted n g (h ∷ hs) =
 pub in_sorted : (n : ℕ) (gs : List Gap) → is_in n (payloads (sorted_gaps gs)) ≡ is_in n (payloads gs)
 in_sorted n [] = refl
 in_sorted n (g ∷ gs) = in_inserted n g (sorted_gaps gs) ∙ ap (λ (b : Bool). (n == g.offset + 16) || b) (in_sorted n gs)
+
+-- a tree of gaps stays where its root and the cells of these gaps do
+pub gap_tree_stays : (m m' : Memory) (hs : List Gap) → link_at m' 24 ≡ link_at m 24
+    → ((n : ℕ) → is_in n (payloads hs) ≡ true → cells_of m' n ≡ cells_of m n)
+    → IsTreeOf m 24 (payloads (sorted_gaps hs)) → IsTreeOf m' 24 (payloads (sorted_gaps hs))
+gap_tree_stays m m' hs root cells old =
+    record {
+      tree = old.tree;
+      linked = subst (λ (o : Option ℕ). IsTree (cells_of m') o old.tree) (sym root)
+          (tree_same (cells_of m) (cells_of m') (link_at m 24) old.tree
+          (λ n i. cells n (sym (in_sorted n hs) ∙ ap (λ (ns : List ℕ). is_in n ns) (sym old.lists) ∙ i)) old.linked);
+      red_black = old.red_black;
+      lists = old.lists;
+    }
 
 -- ---- removing one
 

@@ -1,23 +1,23 @@
 -- What each setter does to the window.
-use Rattle.best_fit.proofs.Common.{◌≡◌, refl, sym, ap, subst, ◌∙◌, ℕ, ◌+◌, ◌-◌, ◌/◌, ◌%◌, ◌<◌, ◌≤◌, ◌⊎◌, inl, inr}
-use Rattle.best_fit.proofs.Common.{Bool, true, false, ◌&&◌, ◌||◌, not, List, [], ◌∷◌, ◌++◌, length, arith, ◌==◌}
-use Rattle.best_fit.proofs.Common.{Option, Some, None, IfSome, map, and_parts, and_from, Memory, WindowState}
-use Rattle.best_fit.proofs.Common.{SameBytesExcept}
+use Rattle.best_fit.proofs.Common.{◌≡◌, refl, sym, ap, subst, ◌∙◌, ℕ, ◌+◌, ◌-◌, ◌/◌, ◌%◌, ◌<◌, ◌≤◌, ◌⊎◌, inl, inr, Bool}
+use Rattle.best_fit.proofs.Common.{true, false, ◌&&◌, ◌||◌, not, List, [], ◌∷◌, ◌++◌, length, arith, ◌==◌, Option, Some}
+use Rattle.best_fit.proofs.Common.{None, IfSome, map, and_parts, and_from, Memory, WindowState, SameBytesExcept}
 use Rattle.best_fit.proofs.Common.{SameSurroundings, bytes_of, patched, word_at, with_bytes}
-use Rattle.best_fit.proofs.Common.{word_written-SameBytesExcept, SameBytes-word}
-use Rattle.best_fit.proofs.Common.{SameBytesExcept-word, Role, Tile, IsBesideTags, of_colour, tile_in, with_red_at}
-use Rattle.best_fit.proofs.Common.{current}
-use Rattle.best_fit.proofs.Common.{is_free, may_be_red, MayHaveColour, EncodesTiles, SameExceptTags}
-use Rattle.best_fit.proofs.Common.{one_tile_at_an_offset, payload_may_change, Cell, is_in, leads, link_at, target_of}
-use Rattle.best_fit.proofs.Common.{SameBytesExcept-link, cells_of, is_red, payloads, gaps_in, gap_cells, is_gap_node}
-use Rattle.best_fit.proofs.Common.{links_among, plain, tiles_in, GapNode, is_gap_node-GapNode, links_at}
+use Rattle.best_fit.proofs.Common.{word_written-SameBytesExcept, SameBytes-word, SameBytesExcept-word, Role, Tile}
+use Rattle.best_fit.proofs.Common.{IsBesideTags, of_colour, tile_in, with_red_at, current, is_free, may_be_red}
+use Rattle.best_fit.proofs.Common.{MayHaveColour, EncodesTiles, one_tile_at_an_offset}
+use Rattle.best_fit.proofs.Common.{payload_may_change, Cell, is_in, leads, link_at, target_of, SameBytesExcept-link}
+use Rattle.best_fit.proofs.Common.{cells_of, is_red, payloads, gaps_in, gap_cells, is_gap_node, links_among, plain}
+use Rattle.best_fit.proofs.Common.{tiles_in, GapNode, is_gap_node-GapNode, links_at}
 use Rattle.link_tree.specs.Nodes.{with_left, with_right, with_red}
 use Rattle.offset_link.specs.Link.{link, link_word}
 use Rattle.best_fit.proofs.tags.RowParts.{Away, away_front, changed_at-around}
-use Rattle.best_fit.proofs.gaps.Nodes.{NodeAt, node_at, nodes_apart, node_colour, tile_colour}
+use Rattle.best_fit.proofs.gaps.Nodes.{NodeAt, node_at, nodes_apart, row_lies, tile_colour}
 use Rattle.best_fit.proofs.gaps.OneField.{Changed, one_cell}
 use Rattle.best_fit.proofs.tags.TagsAndLiveSet.{said_row}
-use Rattle.best_fit.proofs.tags.UnchangedTags.{inside}
+use Rattle.best_fit.proofs.tags.TileRows.{Row}
+use Rattle.best_fit.proofs.tags.UnchangedTags.{In, TagStep, in_other, in_stands, inside, tag_step}
+use Rattle.best_fit.specs.Tiling.{ChangesTags}
 
 -- the bytes of a link are its word's
 pub link-SameBytesExcept : (c d : WindowState) (at : ℕ) (target : Option ℕ) → at + 8 ≤ length c.bytes
@@ -178,6 +178,32 @@ module _ (c d : WindowState) (n : ℕ) (to : Option ℕ) (g : GapNode c n) (targ
   unfolding with_right
   right_cells = one_cell c d n g right_changed (λ (x : Cell). record x { right = to }) right_own
 
+-- ---- a gap before and after the change
+
+module _ {old new : WindowState} {ts us : List Tile} (s : TagStep old new ts us) (u : Tile) (m : ℕ) (i : In u ts)
+    (j : In u us) (at : u.offset + 16 ≡ m) where
+  word_stays : (k : ℕ) → m ≤ k → k + 8 ≤ m + 16 → word_at (bytes_of new.bytes) k ≡ word_at (bytes_of old.bytes) k
+  word_stays k low high =
+      let row = said_row old ts s.said in
+      let long = (row_lies 128 ts (length old.bytes - 16) u row i).long in
+      let new_row : Row 128 us (length old.bytes - 16) = subst (λ n. Row 128 us (n - 16)) s.same.size
+      (said_row new us s.says) in
+      SameBytes-word (bytes_of old.bytes) (bytes_of new.bytes) k (k + 8) k (record {
+        at = λ l a b.
+            let p = inside 128 u ts (length old.bytes - 16) l row i (omega arith) (omega arith) in
+            let q = inside 128 u us (length old.bytes - 16) l new_row j (omega arith) (omega arith) in
+            s.same.bytes l p.beside q.beside p.high;
+      }) (omega arith) (omega arith)
+
+  -- the cell of a node stays
+  pub step_cell : cells_of (bytes_of new.bytes) m ≡ cells_of (bytes_of old.bytes) m
+  step_cell =
+      cell_stays (bytes_of old.bytes) (bytes_of new.bytes) m
+      (ap (target_of m) (word_stays m (omega arith) (omega arith)))
+      (ap (target_of (m + 8)) (word_stays (m + 8) (omega arith) (omega arith)))
+      (tile_colour new us u m s.says (in_stands new us u s.says j) at
+      ∙ sym (tile_colour old ts u m s.said (in_stands old ts u s.said i) at))
+
 -- ---- a colour is set
 
 -- a byte outside all tags stays outside if a tile changes its colour
@@ -195,15 +221,8 @@ plain_recoloured [] t red back free =
     λ i. record t { red = same i } ∷ map plain back
 plain_recoloured (u ∷ us) t red back free = ap (λ (ts : List Tile). plain u ∷ ts) (plain_recoloured us t red back free)
 
--- another tile of the list stays where one changes
-pub tile_in-other : (front : List Tile) (t u : Tile) (back : List Tile) (at : ℕ) (v : Tile) → t.offset ≡ u.offset
-    → (t.offset ≡ at → ⊥) → tile_in (front ++ (t ∷ back)) at ≡ Some v → tile_in (front ++ (u ∷ back)) at ≡ Some v
-tile_in-other [] t u back at v e o h = grind (arith)
-tile_in-other (w ∷ ws) t u back at v e o h = let ih = tile_in-other ws t u back at v e o in grind (arith, ih)
-
 module _ (c d : WindowState) (n at : ℕ) (red : Bool) (g : GapNode c n) (o : at + 16 ≡ n)
-    (tags : (ts : List Tile) → EncodesTiles c ts → EncodesTiles d (with_red_at at red ts)) (rest : (ts : List Tile)
-    → EncodesTiles c ts → SameExceptTags c d ts (with_red_at at red ts)) where
+    (paint : ChangesTags c d (with_red_at at red)) where
   gap : NodeAt c n
   gap = node_at c n g
 
@@ -222,75 +241,62 @@ module _ (c d : WindowState) (n at : ℕ) (red : Bool) (g : GapNode c n) (o : at
   begins : gap.free_tile.tile.offset ≡ at
   begins = let e = gap.free_tile.at in omega arith
 
-  list : with_red_at at red (tiles_in c) ≡ painted
-  list =
+  step : TagStep c d (tiles_in c) painted
+  step =
       let said : EncodesTiles c (front ++ (tile ∷ back)) = subst (EncodesTiles c) gap.free_tile.list gap.said in
-      ap (λ (ts : List Tile). with_red_at at red ts) gap.free_tile.list
+      tag_step (tiles_in c) painted gap.said (ap (λ (ts : List Tile). with_red_at at red ts) gap.free_tile.list
       ∙ changed_at-around at tile back begins (of_colour red) front
       (subst (λ k. Away k front) begins
-      (away_front 128 front tile back (length c.bytes - 16) (said_row c (front ++ (tile ∷ back)) said)))
-
-  said : EncodesTiles d painted
-  said = subst (EncodesTiles d) list (tags (tiles_in c) gap.said)
-
-  same : SameExceptTags c d (tiles_in c) painted
-  same = subst (SameExceptTags c d (tiles_in c)) list (rest (tiles_in c) gap.said)
+      (away_front 128 front tile back (length c.bytes - 16) (said_row c (front ++ (tile ∷ back)) said)))) paint
 
   beside : (k : ℕ) → IsBesideTags (tiles_in c) k → k < length c.bytes - 16 → bytes_of d.bytes k ≡ bytes_of c.bytes k
   beside k b l =
-      same.bytes k b (beside_recoloured front tile red back k
+      step.same.bytes k b (beside_recoloured front tile red back k
       (subst (λ (ts : List Tile). IsBesideTags ts k) gap.free_tile.list b)) l
 
-  -- the links of each gap stay
-  word_stays : (m k : ℕ) → NodeAt c m → m ≤ k → k + 8 ≤ m + 16
-      → word_at (bytes_of d.bytes) k ≡ word_at (bytes_of c.bytes) k
-  word_stays m k e low high =
-      let t = e.free_tile in let p = t.at in let long = e.long in
+  -- the links of the gap stay
+  own_word : (k : ℕ) → n ≤ k → k + 8 ≤ n + 16 → word_at (bytes_of d.bytes) k ≡ word_at (bytes_of c.bytes) k
+  own_word k low high =
+      let t = gap.free_tile in let p = t.at in let long = gap.long in
       SameBytes-word (bytes_of c.bytes) (bytes_of d.bytes) k (k + 8) k (record {
         at = λ j a b.
-            let i = inside 128 t.tile (tiles_in c) (length c.bytes - 16) j e.row e.is_in_list
+            let i = inside 128 t.tile (tiles_in c) (length c.bytes - 16) j gap.row gap.is_in_list
             (omega arith) (omega arith) in
             beside j i.beside i.high;
       }) (omega arith) (omega arith)
 
-  left_stays : (m : ℕ) → NodeAt c m → link_at (bytes_of d.bytes) m ≡ link_at (bytes_of c.bytes) m
-  left_stays m e = ap (target_of m) (word_stays m m e (omega arith) (omega arith))
-
-  right_stays : (m : ℕ) → NodeAt c m → link_at (bytes_of d.bytes) (m + 8) ≡ link_at (bytes_of c.bytes) (m + 8)
-  right_stays m e = ap (target_of (m + 8)) (word_stays m (m + 8) e (omega arith) (omega arith))
-
   red_own : cells_of (bytes_of d.bytes) n ≡ record (cells_of (bytes_of c.bytes) n) { red = red }
   red_own =
-      let a = left_stays n gap in let b = right_stays n gap in
+      let a = ap (target_of n) (own_word n (omega arith) (omega arith)) in
+      let b = ap (target_of (n + 8)) (own_word (n + 8) (omega arith) (omega arith)) in
       let painted_tile : Tile = record tile { red = red } in
-      let r = tile_colour d painted painted_tile n said (one_tile_at_an_offset d front painted_tile back said)
-      gap.free_tile.at in
+      let r = tile_colour d painted painted_tile n step.says
+      (one_tile_at_an_offset d front painted_tile back step.says) gap.free_tile.at in
       λ i. record { left = a i; right = b i; red = r i }
 
-  other_red : (m : ℕ) → NodeAt c m → (m ≡ n → ⊥) → is_red (bytes_of d.bytes) m ≡ is_red (bytes_of c.bytes) m
-  other_red m e far =
+  -- and so do the fields of another one
+  others_stay : (m : ℕ) → NodeAt c m → (m ≡ n → ⊥) → cells_of (bytes_of d.bytes) m ≡ cells_of (bytes_of c.bytes) m
+  others_stay m e far =
       let u = e.free_tile.tile in let p = e.free_tile.at in
-      let stands : tile_in (front ++ (tile ∷ back)) u.offset ≡ Some u = ap (λ (ts : List Tile). tile_in ts u.offset)
-      (sym gap.free_tile.list) ∙ e.stands in
-      let there = tile_in-other front tile (record tile { red = red }) back u.offset u refl
-      (λ same. far (let q = gap.free_tile.at in omega arith)) stands in
-      tile_colour d painted u m said there p ∙ sym (node_colour c m e)
+      let here : In u (front ++ (tile ∷ back)) = subst (λ (ts : List Tile). In u ts) gap.free_tile.list e.is_in_list in
+      let other : tile ≡ u → ⊥ = λ same. far (sym p ∙ ap (λ (t : Tile). t.offset + 16) (sym same)
+      ∙ gap.free_tile.at) in
+      step_cell step u m e.is_in_list (in_other u tile (record tile { red = red }) front back other here) p
 
   -- writing the colour changes the tag alone
   pub red_changed : Changed c d n
   red_changed =
       record {
         us = painted;
-        said = said;
+        said = step.says;
         tiles = plain_recoloured front tile red back gap.free_tile.free ∙ ap (λ (ts : List Tile). map plain ts)
             (sym gap.free_tile.list);
-        place = same.place;
-        size = same.size;
+        place = step.same.place;
+        size = step.same.size;
         bytes = λ k b l away. beside k b l;
         links = subst (λ (x : Cell). (leads (λ k. is_in k (payloads (gaps_in c))) x.left && leads
             (λ k. is_in k (payloads (gaps_in c))) x.right) ≡ true) (sym red_own) (links_at c n g);
-        others = λ m i far. let e = node_at c m (record { good = g.good; listed = i }) in
-            cell_stays (bytes_of c.bytes) (bytes_of d.bytes) m (left_stays m e) (right_stays m e) (other_red m e far);
+        others = λ m i far. others_stay m (node_at c m (record { good = g.good; listed = i })) far;
       }
 
   -- writing the colour changes only this field of the cell

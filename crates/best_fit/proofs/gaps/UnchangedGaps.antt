@@ -1,11 +1,10 @@
 -- Gaps that stay: no byte of them changes if bytes of the header or of one block's payload change.
-use Rattle.best_fit.proofs.Common.{◌≡◌, refl, subst, ℕ, ◌+◌, ◌-◌, ◌≤◌, ◌⊎◌, inl, inr, Bool, true, false}
-use Rattle.best_fit.proofs.Common.{List, [], ◌∷◌, arith, nat_lt, ◌==◌, ◌&&◌, if◌then◌else◌, IsTrue, list_any}
-use Rattle.best_fit.proofs.Common.{false≢true, or_cases, and_parts, eqb-true, leb-true, ltb-true, AllByRecursion}
-use Rattle.best_fit.proofs.Common.{Memory, WindowState, SameBytes, SameBytesExcept}
-use Rattle.best_fit.proofs.Common.{bytes_of, SameBytes-refl, SameBytes-trans, current, Extent, Gap, LiveSet, end_of}
-use Rattle.best_fit.proofs.Common.{gap_between}
-use Rattle.best_fit.proofs.Common.{gaps, gaps_from, handle, holds, proper_from, ChangesBytes, has_room, live_of}
+use Rattle.best_fit.proofs.Common.{◌≡◌, refl, subst, ℕ, ◌+◌, ◌-◌, ◌≤◌, ◌⊎◌, inl, inr, Bool, true, false, List, [], ◌∷◌}
+use Rattle.best_fit.proofs.Common.{arith, nat_lt, ◌==◌, ◌&&◌, if◌then◌else◌, IsTrue, list_any, false≢true, or_cases}
+use Rattle.best_fit.proofs.Common.{and_parts, eqb-true, leb-true, ltb-true, AllByRecursion, Memory, WindowState}
+use Rattle.best_fit.proofs.Common.{SameBytes, SameBytesExcept, bytes_of, SameBytes-refl, SameBytes-trans, current}
+use Rattle.best_fit.proofs.Common.{Extent, Gap, LiveSet, end_of, gap_between, gaps, gaps_from, handle, holds}
+use Rattle.best_fit.proofs.Common.{proper_from, ChangesBytes, has_room, live_of}
 use Rattle.best_fit.specs.Heap.{KeepsGaps}
 use Rattle.best_fit.proofs.allocation.NewBlock.{changed-live, has_room-names}
 use Rattle.best_fit.proofs.extents.Changes.{is_proper-IsProper}

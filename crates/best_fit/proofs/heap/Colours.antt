@@ -1,22 +1,27 @@
 -- The colour of a block's tile changes.
-use Rattle.best_fit.proofs.Common.{◌≡◌, refl, sym, ap, subst, ◌∙◌, ℕ, ◌+◌, ◌-◌, ◌<◌, ◌≤◌, Bool, true, false, ◌||◌}
-use Rattle.best_fit.proofs.Common.{not, List, [], ◌∷◌, ◌++◌, length, arith, IsTrue, Option, Some, AllByRecursion}
-use Rattle.best_fit.proofs.Common.{none-some, WindowState, SameBytes, SameBytesExcept, bytes_of, word_at, Role, Node}
-use Rattle.best_fit.proofs.Common.{Tile, current}
-use Rattle.best_fit.proofs.Common.{SameBytes-word, of_colour, tile_in, with_red_at, IsBesideTags, may_be_red}
-use Rattle.best_fit.proofs.Common.{MayHaveColour, EncodesTiles, SameExceptTags, one_tile_at_an_offset, target_of}
-use Rattle.best_fit.proofs.Common.{Extent}
-use Rattle.best_fit.proofs.Common.{LiveSet, handle, end_of, others, IsFreeTree, cells_of, is_red, IsHeap}
-use Rattle.best_fit.proofs.Common.{Recolours, KeepsBlocks, EncodesLiveSet, live_of}
+use Rattle.best_fit.proofs.Common.{◌≡◌, refl, sym, ap, subst, ◌∙◌, ℕ, ◌+◌, ◌-◌, ◌<◌, ◌≤◌, Bool, true, false, ◌||◌, not}
+use Rattle.best_fit.proofs.Common.{List, [], ◌∷◌, ◌++◌, length, arith, IsTrue, Option, Some, AllByRecursion, none-some}
+use Rattle.best_fit.proofs.Common.{WindowState, SameBytes, SameBytesExcept, bytes_of, Role, Node, Tile, current}
+use Rattle.best_fit.proofs.Common.{of_colour, tile_in, with_red_at, may_be_red, MayHaveColour, one_tile_at_an_offset}
+use Rattle.best_fit.proofs.Common.{target_of, Extent, LiveSet, handle, end_of, others, IsFreeTree, cells_of, IsHeap}
+use Rattle.best_fit.proofs.Common.{Recolours, KeepsBlocks, EncodesLiveSet, is_node_in, live_of}
 use Rattle.best_fit.proofs.tags.RowParts.{Away, away_front, changed_at-around}
-use Rattle.best_fit.proofs.gaps.Nodes.{NodeAt, node_colour, tile_colour}
-use Rattle.best_fit.proofs.gaps.Setters.{beside_recoloured, cell_stays, tile_in-other}
+use Rattle.best_fit.proofs.gaps.Nodes.{NodeAt, tile_colour}
+use Rattle.best_fit.proofs.gaps.Setters.{beside_recoloured, step_cell}
 use Rattle.best_fit.proofs.tags.TagsAndLiveSet.{SaysHeap, heap-says, said_row, says-EncodesLiveSet, live_in}
 use Rattle.best_fit.proofs.allocation.GapToBlock.{apart_recoloured, extents_recoloured}
 use Rattle.best_fit.proofs.tags.TileJoins.{others_between, extents_of-around}
 use Rattle.best_fit.proofs.tags.TileRows.{Apart, Row, extent_of, extents_of}
-use Rattle.best_fit.proofs.tags.UnchangedTags.{In, all_extents, around_keeps, inside, step_word}
-use Rattle.best_fit.proofs.tags.Writes.{Block, NodeBlock, free_stays}
+use Rattle.best_fit.proofs.tags.UnchangedTags.{In, TagStep, all_extents, around_keeps, in_other, inside, step_word}
+use Rattle.best_fit.proofs.tags.UnchangedTags.{tag_step}
+use Rattle.best_fit.specs.Tiling.{ChangesTags}
+use Rattle.best_fit.proofs.tags.Writes.{Block, NodeBlock, free_stays, node_block}
+
+-- a node block of the window that a heap is seen as
+pub node_at : (v c : WindowState) (h : ℕ) → v ≡ c → IsHeap current c.bytes → IsTrue (is_node_in (live_of v.bytes) h)
+    → NodeBlock c h
+node_at v c h e heap is =
+    node_block c h heap (subst (λ (u : WindowState). IsTrue (is_node_in (live_of u.bytes) h)) e is)
 
 -- the node's tile can have any colour
 pub node_may : (c : WindowState) (h at : ℕ) (red : Bool) → NodeBlock c h → at + 16 ≡ h → MayHaveColour c at red
@@ -35,8 +40,7 @@ node_may c h at red n e =
     colour false t u = refl
 
 module _ (c d : WindowState) (h at : ℕ) (red : Bool) (heap : IsHeap current c.bytes) (b : Block c h) (e : at + 16 ≡ h)
-    (tags : (ts : List Tile) → EncodesTiles c ts → EncodesTiles d (with_red_at at red ts)) (rest : (ts : List Tile)
-    → EncodesTiles c ts → SameExceptTags c d ts (with_red_at at red ts))
+    (paint : ChangesTags c d (with_red_at at red))
     (word : SameBytesExcept (bytes_of c.bytes) (bytes_of d.bytes) (at + 8) 8) where
   abbrev front : List Tile
   front = b.front
@@ -56,69 +60,41 @@ module _ (c d : WindowState) (h at : ℕ) (red : Bool) (heap : IsHeap current c.
   row : Row 128 (front ++ (tile ∷ back)) (length c.bytes - 16)
   row = said_row c (front ++ (tile ∷ back)) b.said
 
-  list : with_red_at at red (front ++ (tile ∷ back)) ≡ painted
-  list = changed_at-around at tile back begins (of_colour red) front
-      (subst (λ k. Away k front) begins (away_front 128 front tile back (length c.bytes - 16) row))
-
-  said : EncodesTiles d painted
-  said = subst (EncodesTiles d) list (tags (front ++ (tile ∷ back)) b.said)
-
-  same : SameExceptTags c d (front ++ (tile ∷ back)) painted
-  same = subst (SameExceptTags c d (front ++ (tile ∷ back))) list (rest (front ++ (tile ∷ back)) b.said)
-
-  beside : (k : ℕ) → IsBesideTags (front ++ (tile ∷ back)) k → k < length c.bytes - 16
-      → bytes_of d.bytes k ≡ bytes_of c.bytes k
-  beside k i l = same.bytes k i (beside_recoloured front tile red back k i) l
+  step : TagStep c d (front ++ (tile ∷ back)) painted
+  step = tag_step (front ++ (tile ∷ back)) painted b.said (changed_at-around at tile back begins (of_colour red) front
+      (subst (λ k. Away k front) begins (away_front 128 front tile back (length c.bytes - 16) row))) paint
 
   -- a payload of any tile stays
   payload_byte : (t : Tile) → In t (front ++ (tile ∷ back)) → (k : ℕ) → t.offset + 16 ≤ k → k < t.offset + t.len
       → bytes_of d.bytes k ≡ bytes_of c.bytes k
-  payload_byte t i k low high = let j = inside 128 t (front ++ (tile ∷ back)) (length c.bytes - 16) k row i low
-      high in beside k j.beside j.high
+  payload_byte t i k low high =
+      let j = inside 128 t (front ++ (tile ∷ back)) (length c.bytes - 16) k row i low high in
+      step.same.bytes k j.beside (beside_recoloured front tile red back k j.beside) j.high
 
   -- and the fields of a gap stay
-  gap_word : (m k : ℕ) → NodeAt c m → m ≤ k → k + 8 ≤ m + 16
-      → word_at (bytes_of d.bytes) k ≡ word_at (bytes_of c.bytes) k
-  gap_word m k n low high =
-      let t = n.free_tile in let p = t.at in let long = n.long in
-      let here : In t.tile (front ++ (tile ∷ back)) = subst (λ (ts : List Tile). In t.tile ts) b.list n.is_in_list in
-      SameBytes-word (bytes_of c.bytes) (bytes_of d.bytes) k (k + 8) k
-      (record { at = λ j low' high'. payload_byte t.tile here j (omega arith) (omega arith) })
-      (omega arith) (omega arith)
-
-  gap_red : (m : ℕ) → NodeAt c m → is_red (bytes_of d.bytes) m ≡ is_red (bytes_of c.bytes) m
-  gap_red m n =
-      let u = n.free_tile.tile in let p = n.free_tile.at in
-      let stands : tile_in (front ++ (tile ∷ back)) u.offset ≡ Some u = ap (λ (ts : List Tile). tile_in ts u.offset)
-      (sym b.list) ∙ n.stands in
-      let far : tile.offset ≡ u.offset → ⊥ = λ q.
-      (let here : Some u ≡ Some tile = sym stands ∙ ap (λ k. tile_in (front ++ (tile ∷ back)) k) (sym q) ∙ b.stands in
-      let one : u ≡ tile = cc in
-      none-some b.role (sym n.free_tile.free ∙ ap (λ (t : Tile). t.use_of) one ∙ b.in_use)) in
-      let there = tile_in-other front tile (record tile { red = red }) back u.offset u refl far stands in
-      tile_colour d painted u m said there p ∙ sym (node_colour c m n)
-
   gap_cell : (m : ℕ) → NodeAt c m → cells_of (bytes_of d.bytes) m ≡ cells_of (bytes_of c.bytes) m
   gap_cell m n =
-      cell_stays (bytes_of c.bytes) (bytes_of d.bytes) m
-      (ap (target_of m) (gap_word m m n (omega arith) (omega arith)))
-      (ap (target_of (m + 8)) (gap_word m (m + 8) n (omega arith) (omega arith))) (gap_red m n)
+      let u = n.free_tile.tile in
+      let here : In u (front ++ (tile ∷ back)) = subst (λ (ts : List Tile). In u ts) b.list n.is_in_list in
+      let other : tile ≡ u → ⊥ = λ q.
+      none-some b.role (sym n.free_tile.free ∙ ap (λ (t : Tile). t.use_of) (sym q) ∙ b.in_use) in
+      step_cell step u m here (in_other u tile (record tile { red = red }) front back other here) n.free_tile.at
 
   says : SaysHeap d painted
   says = record {
-    said = said;
+    said = step.says;
     apart = apart_recoloured false front tile red back
         (subst (Apart false) b.list (heap-says c heap).apart);
   }
 
   free : IsFreeTree current (bytes_of d.bytes) (live_of c.bytes)
   free = free_stays c d heap
-      (ap (target_of 24) (step_word c d (front ++ (tile ∷ back)) painted b.said said same)) gap_cell
+      (ap (target_of 24) (step_word step)) gap_cell
 
   live_same : live_in (length d.bytes) painted ≡ live_of c.bytes
   unfolding live_of
   live_same =
-      let size = same.size in let extents = extents_recoloured front tile red back ∙ ap extents_of (sym b.list) in
+      let size = step.same.size in let extents = extents_recoloured front tile red back ∙ ap extents_of (sym b.list) in
       λ i. record { size = size i; extents = extents i }
 
   laid : EncodesLiveSet current d.bytes (live_of c.bytes)
@@ -138,7 +114,7 @@ module _ (c d : WindowState) (h at : ℕ) (red : Bool) (heap : IsHeap current c.
 
   keeps : KeepsBlocks c d (others h (live_of c.bytes).extents)
   keeps = subst (KeepsBlocks c d) (sym left_extents)
-      (around_keeps c d front (tile ∷ []) (record tile { red = red } ∷ []) back b.said said same)
+      (around_keeps front (tile ∷ []) (record tile { red = red } ∷ []) back step)
 
   payloads : AllByRecursion (λ (x : Extent). SameBytes (bytes_of c.bytes) (bytes_of d.bytes) (handle x) (end_of x))
       (live_of c.bytes).extents
@@ -157,7 +133,8 @@ module _ (c d : WindowState) (h at : ℕ) (red : Bool) (heap : IsHeap current c.
       let painted_tile : Tile = record tile { red = red } in
       record {
         live = laid;
-        colour = tile_colour d painted painted_tile h said (one_tile_at_an_offset d front painted_tile back said) b.at;
+        colour = tile_colour d painted painted_tile h step.says
+            (one_tile_at_an_offset d front painted_tile back step.says) b.at;
         keeps = keeps;
         payloads = payloads;
         rest = subst (λ k. SameBytesExcept (bytes_of c.bytes) (bytes_of d.bytes) k 8) (omega arith) word;

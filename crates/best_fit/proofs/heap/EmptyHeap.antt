@@ -2,13 +2,11 @@
 use Rattle.best_fit.proofs.Common.{◌≡◌, refl, sym, ap, subst, ◌∙◌, ℕ, ◌-◌, ◌%◌, ◌<◌, ◌≤◌, ◌⊎◌, inl, inr, false, List}
 use Rattle.best_fit.proofs.Common.{[], ◌∷◌, length, arith, ◌==◌, Some, None, false≢true, cond_both, cond-true}
 use Rattle.best_fit.proofs.Common.{cond-false, cases_lt, eq-eqb, ne_eqb, WindowState, SameBytes, SameBytesExcept}
-use Rattle.best_fit.proofs.Common.{SameSurroundings, bytes_of}
-use Rattle.best_fit.proofs.Common.{word_at, AllByRecursion, Tile, current, free_tile, IsBesideTags, EncodesTiles}
-use Rattle.best_fit.proofs.Common.{SameExceptTags, legal, header_may_change, one_tile_at_an_offset}
-use Rattle.best_fit.proofs.Common.{payload_may_change, tiles_are_read_off, leaf, fork, link_at, SameBytesExcept-link}
-use Rattle.best_fit.proofs.Common.{Gap}
-use Rattle.best_fit.proofs.Common.{gaps, IsTreeOf, cells_of, payloads, sorted_gaps, gap_of, gaps_of, tiles_in}
-use Rattle.best_fit.proofs.Common.{EncodesLiveSet, live_of, no_blocks}
+use Rattle.best_fit.proofs.Common.{SameSurroundings, bytes_of, word_at, AllByRecursion, Tile, current, free_tile}
+use Rattle.best_fit.proofs.Common.{IsBesideTags, EncodesTiles, SameExceptTags, legal, header_may_change}
+use Rattle.best_fit.proofs.Common.{one_tile_at_an_offset, payload_may_change, tiles_are_read_off, leaf, fork, link_at}
+use Rattle.best_fit.proofs.Common.{SameBytesExcept-link, Gap, gaps, IsTreeOf, cells_of, payloads, sorted_gaps, gap_of}
+use Rattle.best_fit.proofs.Common.{gaps_of, tiles_in, EncodesLiveSet, live_of, no_blocks}
 use Rattle.block_tags.specs.Lists.{laid}
 use Rattle.offset_link.proofs.Laws.{null_word}
 use Rattle.best_fit.specs.Heap.{HasNullLinks, FormatsHeap}

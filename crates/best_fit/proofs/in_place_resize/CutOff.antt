@@ -1,35 +1,29 @@
 -- A block is joined with the gap after it, which leaves the tree, and the part cut off enters the tree.
 use Rattle.best_fit.proofs.Common.{◌≡◌, refl, sym, ap, subst, ◌∙◌, ℕ, ◌+◌, ◌-◌, ◌*◌, ◌≤◌, Bool, true, false, List, []}
-use Rattle.best_fit.proofs.Common.{◌∷◌, ◌++◌, length, arith, nat_le, Option, Some, map, min, Memory, WindowState}
-use Rattle.best_fit.proofs.Common.{bytes_of, gap_offset}
-use Rattle.best_fit.proofs.Common.{Tile, current, first_in, free_tile, next_in, tile_in, HasTileAt, EncodesTiles}
-use Rattle.best_fit.proofs.Common.{SameExceptTags, IsTree, bits, is_in, tree_same, link_at, target_of, Extent, Gap}
-use Rattle.best_fit.proofs.Common.{LiveSet, handle, end_of, gap_after, others, resized, share, IsTreeOf, cells_of}
-use Rattle.best_fit.proofs.Common.{payloads, sorted_gaps, gap_of, gaps_of, gaps_in, plain, tiles_in, HasGapTree}
-use Rattle.best_fit.proofs.Common.{LacksGap, ChangesGapTree, node_of, tile_list, IsHeap, KeepsBlocks, EncodesLiveSet}
-use Rattle.best_fit.proofs.Common.{SameBlock, live_of}
-use Rattle.best_fit.proofs.Common.{SplitsBlock, free_len, joined_free_at}
+use Rattle.best_fit.proofs.Common.{◌∷◌, ◌++◌, length, arith, nat_le, Some, map, min, Memory, WindowState, bytes_of}
+use Rattle.best_fit.proofs.Common.{gap_offset, Tile, current, first_in, free_tile, next_in, tile_in, EncodesTiles, bits}
+use Rattle.best_fit.proofs.Common.{target_of, Extent, Gap, LiveSet, handle, end_of, gap_after, others, resized, share}
+use Rattle.best_fit.proofs.Common.{IsTreeOf, payloads, sorted_gaps, gap_of, gaps_of, gaps_in, plain, tiles_in}
+use Rattle.best_fit.proofs.Common.{HasGapTree, LacksGap, ChangesGapTree, node_of, tile_list, IsHeap, KeepsBlocks}
+use Rattle.best_fit.proofs.Common.{EncodesLiveSet, SameBlock, live_of, SplitsBlock, free_len, joined_free_at}
 use Rattle.raw_region.proofs.Laws.{SameBytes-part}
-use Rattle.best_fit.specs.Tiling.{cut_at}
+use Rattle.best_fit.specs.Tiling.{ChangesTags, cut_at}
 use Rattle.best_fit.proofs.allocation.LeastGap.{heap_tree, bits-le}
-use Rattle.best_fit.proofs.tags.RowParts.{Away, away_front, next_in-around}
 use Rattle.best_fit.proofs.tags.Frames.{SameBlock-trans, keeps-insert, keeps-others, keeps-trans}
 use Rattle.best_fit.proofs.gaps.Nodes.{in_around}
-use Rattle.best_fit.proofs.gaps.Order.{in_sorted}
+use Rattle.best_fit.proofs.gaps.Order.{gap_tree_stays}
 use Rattle.best_fit.proofs.gaps.OneField.{same_gaps}
 use Rattle.best_fit.proofs.tags.TileJoins.{rest_of}
-use Rattle.best_fit.proofs.deallocation.Coalescing.{back_parts, first-plain, same_rest}
-use Rattle.best_fit.proofs.tags.TagsAndLiveSet.{SaysHeap, heap-says, said_row}
-use Rattle.best_fit.proofs.allocation.GapToBlock.{lays_out}
-use Rattle.best_fit.proofs.gaps.LinksOnly.{SplitsAlike, regrown_block, regrown_keeps, regrown_live, splits_alike}
-use Rattle.best_fit.proofs.gaps.LinksOnly.{tree_says}
+use Rattle.best_fit.proofs.deallocation.Coalescing.{alike, back_parts, begins, first-plain, same_rest, used_in}
+use Rattle.best_fit.proofs.deallocation.OneGap.{HasUsed}
+use Rattle.best_fit.proofs.tags.TagsAndLiveSet.{SaysHeap, heap-says}
+use Rattle.best_fit.proofs.allocation.GapToBlock.{lays_out, planted_live}
+use Rattle.best_fit.proofs.gaps.LinksOnly.{SplitsAlike, regrown_block, regrown_keeps, regrown_live, tree_says}
 use Rattle.best_fit.proofs.in_place_resize.NextGap.{gap_is, joins, t_cell, t_cut_at, t_cuts, t_gaps, t_in, t_joins}
-use Rattle.best_fit.proofs.in_place_resize.NextGap.{t_behind0, t_keeps, t_live}
-use Rattle.best_fit.proofs.in_place_resize.NextGap.{t_says, t_stands0, t_stands1, t_still, t_word}
+use Rattle.best_fit.proofs.in_place_resize.NextGap.{t_behind0, t_keeps, t_live, t_says, t_stands1, t_still, t_word}
 use Rattle.best_fit.proofs.tags.TileRows.{Apart-is_merged, extent_of, gaps_of-used, gaps_of-append}
 use Rattle.best_fit.proofs.tags.UnchangedTags.{In}
 use Rattle.best_fit.proofs.tags.Writes.{Block}
-use Rattle.best_fit.proofs.free_tree.LinkAndUnlink.{few_bits}
 
 free-plain : (ts : List Tile) → free_len (first_in (map plain ts)) ≡ free_len (first_in ts)
 free-plain [] = refl
@@ -61,17 +55,6 @@ pub record Recut (w new : WindowState) (at wanted : ℕ) (is_cut : Bool) : Type 
       → SplitsBlock current w e (at + 16) wanted
 
 module _ (w : WindowState) (at : ℕ) (heap : IsHeap current w.bytes) (b : Block w (at + 16)) (wanted : ℕ) where
-  begins : b.tile.offset ≡ at
-  begins = let e = b.at in omega arith
-
-  away : Away at b.front
-  away = subst (λ k. Away k b.front) begins (away_front 128 b.front b.tile b.back (length w.bytes - 16)
-      (said_row w (b.front ++ (b.tile ∷ b.back)) b.said))
-
-  -- the next tile is the first tile after the block
-  pub behind_is : next_in (b.front ++ (b.tile ∷ b.back)) at ≡ first_in b.back
-  behind_is = next_in-around at b.tile b.back begins b.front away
-
   gaps_w : gaps_in w ≡ gaps_of b.front ++ (gaps_of (tile_list (first_in b.back)) ++ gaps_of (rest_of b.back))
   gaps_w =
       ap gaps_of b.list ∙ gaps_of-append b.front (b.tile ∷ b.back) ∙ ap (λ (hs : List Gap). gaps_of b.front ++ hs)
@@ -113,26 +96,17 @@ module _ (w : WindowState) (at : ℕ) (heap : IsHeap current w.bytes) (b : Block
       (length (gaps_in w) + 1) (omega arith) in
       record { tree = tree; rest = rest; steps = omega arith }
 
-  -- the number of gaps has at most 41 bits
-  pub few_steps : bits (length (gaps_in w) + 1) ≤ 41
-  few_steps = few_bits w (gaps_in w) (heap_tree w heap)
-
   module _ (d : WindowState) (h : HasGapTree d (gaps_of b.front ++ gaps_of (rest_of b.back)))
       (r : ChangesGapTree w d) where
-    s : SplitsAlike (tiles_in d) b.front b.tile b.back
-    s = splits_alike (tiles_in d) b.front b.tile b.back (r.tiles ∙ ap (λ (ts : List Tile). map plain ts) b.list)
+    abbrev s : SplitsAlike (tiles_in d) b.front b.tile b.back
+    s = alike w at heap b d r
 
-    says_d : SaysHeap d (tiles_in d)
-    says_d = tree_says d (gaps_of b.front ++ gaps_of (rest_of b.back)) h
-
-    used_d : s.tile'.use_of ≡ Some b.role
-    used_d = ap (λ (t : Tile). t.use_of) s.tiles ∙ b.in_use
+    -- the block with the gap after it out of the tree
+    abbrev pub joinable : HasUsed d at
+    joinable = used_in w at heap b d (gaps_of b.front ++ gaps_of (rest_of b.back)) h r
 
     offset_d : s.tile'.offset ≡ b.tile.offset
     offset_d = ap (λ (t : Tile). t.offset) s.tiles
-
-    begins_d : s.tile'.offset ≡ at
-    begins_d = offset_d ∙ begins
 
     tree_d : HasGapTree d (gaps_of s.front' ++ gaps_of (rest_of s.back'))
     tree_d = subst (λ (hs : List Gap). HasGapTree d hs)
@@ -140,46 +114,34 @@ module _ (w : WindowState) (at : ℕ) (heap : IsHeap current w.bytes) (b : Block
         ∙ ap (λ (hs : List Gap). gaps_of b.front ++ hs) (same_rest b.back s.back' s.backs))) h
 
     abbrev j : ℕ
-    j = (t_joins d says_d at s.front' s.tile' s.back' b.role s.list used_d begins_d wanted).gap
+    j = (t_joins joinable wanted).gap
 
     -- the tile and the gap after it are as long as the old block and the gap after it
     long_d : s.tile'.len + j ≡ b.tile.len + gap_after (live_of w.bytes) (extent_of b.tile b.role)
     long_d =
         let l : s.tile'.len ≡ b.tile.len = ap (λ (t : Tile). t.len) s.tiles in
         let g : j ≡ gap_after (live_of w.bytes) (extent_of b.tile b.role) =
-        sym (t_joins d says_d at s.front' s.tile' s.back' b.role s.list used_d begins_d wanted).len
-        ∙ same_free b.back s.back' s.backs ∙ (joins w heap (at + 16) at b begins wanted).len
-        ∙ sym (gap_is w heap (at + 16) at b begins wanted) in
+        sym (t_joins joinable wanted).len
+        ∙ same_free b.back s.back' s.backs ∙ (joins w heap (at + 16) at b (begins w at heap b) wanted).len
+        ∙ sym (gap_is w heap (at + 16) at b (begins w at heap b) wanted) in
         omega arith
-
-    -- the tile of the block is at its offset
-    pub c_stands0 : HasTileAt d at
-    c_stands0 = t_stands0 d says_d at s.front' s.tile' s.back' b.role s.list used_d begins_d wanted
 
     -- the gap after it is at its old offset
     pub c_behind0 : (ts : List Tile) → EncodesTiles d ts → gap_offset (next_in ts at) ≡ gap_offset (first_in b.back)
-    c_behind0 ts said = t_behind0 d says_d at s.front' s.tile' s.back' b.role s.list used_d begins_d wanted ts said
+    c_behind0 ts said = t_behind0 joinable wanted ts said
         ∙ first-plain b.back s.back' s.backs
 
-    module _ (mid : WindowState) (join : (ts : List Tile) → EncodesTiles d ts → EncodesTiles mid (joined_free_at at ts))
-        (join_same : (ts : List Tile) → EncodesTiles d ts → SameExceptTags d mid ts (joined_free_at at ts)) where
-      pub c_stands1 : HasTileAt mid at
-      c_stands1 = t_stands1 d says_d at s.front' s.tile' s.back' b.role s.list used_d begins_d wanted mid join join_same
-
-      module _ (new : WindowState) (cut : (ts : List Tile) → EncodesTiles mid ts
-          → EncodesTiles new (cut_at at wanted ts))
-          (cut_same : (ts : List Tile) → EncodesTiles mid ts → SameExceptTags mid new ts (cut_at at wanted ts)) where
-        says_new : SaysHeap new (tiles_in new)
-        says_new = t_says d says_d at s.front' s.tile' s.back' b.role s.list used_d begins_d wanted mid join
-            join_same new cut cut_same
+    module _ {mid : WindowState} (join : ChangesTags d mid (joined_free_at at)) where
+      module _ {new : WindowState} (cut : ChangesTags mid new (cut_at at wanted)) where
+        abbrev says_new : SaysHeap new (tiles_in new)
+        says_new = t_says joinable wanted join cut
 
         y_is : record { offset = s.tile'.offset; len = share (s.tile'.len + j) wanted; role = b.role } ≡ y
         y_is = let l = long_d in λ i. record { offset = offset_d i; len = share (l i) wanted; role = b.role }
 
         live_new : live_of new.bytes ≡ resized (live_of w.bytes) y
         live_new =
-            t_live d says_d at s.front' s.tile' s.back' b.role s.list used_d begins_d wanted mid join
-            join_same new cut cut_same
+            t_live joinable wanted join cut
             ∙ ap (λ (l : LiveSet). resized l (record {
               offset = s.tile'.offset;
               len = share (s.tile'.len + j) wanted;
@@ -190,11 +152,10 @@ module _ (w : WindowState) (at : ℕ) (heap : IsHeap current w.bytes) (b : Block
         keeps_new : KeepsBlocks w new (others (handle x) (live_of w.bytes).extents)
         keeps_new =
             let first = keeps-others w d (at + 16) (live_of w.bytes).extents
-            (regrown_keeps w d (heap-says w heap).said says_d.said r) in
+            (regrown_keeps w d (heap-says w heap).said joinable.says.said r) in
             let second = subst (λ (l : LiveSet). KeepsBlocks d new (others (at + 16) l.extents)) (regrown_live w d r)
-            (t_keeps d says_d at s.front' s.tile' s.back' b.role s.list used_d begins_d wanted mid join
-            join_same new cut cut_same) in
-            subst (λ k. KeepsBlocks w new (others (k + 16) (live_of w.bytes).extents)) (sym begins)
+            (t_keeps joinable wanted join cut) in
+            subst (λ k. KeepsBlocks w new (others (k + 16) (live_of w.bytes).extents)) (sym (begins w at heap b))
             (keeps-trans w d new (others (at + 16) (live_of w.bytes).extents) first second)
 
         abbrev both : Extent
@@ -208,58 +169,40 @@ module _ (w : WindowState) (at : ℕ) (heap : IsHeap current w.bytes) (b : Block
             let first = front_block (bytes_of w.bytes) (bytes_of d.bytes) x
             (min b.tile.len
             (share (b.tile.len + gap_after (live_of w.bytes) (extent_of b.tile b.role)) wanted)) (omega arith)
-            (regrown_block w d (heap-says w heap).said says_d.said r b.tile i b.role b.in_use) in
+            (regrown_block w d (heap-says w heap).said joinable.says.said r b.tile i b.role b.in_use) in
             let l = long_d in let n : s.tile'.len ≡ b.tile.len = ap (λ (t : Tile). t.len) s.tiles in
             let second = subst (λ (z : Extent). SameBlock (bytes_of d.bytes) (bytes_of new.bytes) z)
             (λ i. record { offset = offset_d i; len = min (n i) (share (l i) wanted); role = b.role })
-            (t_still d says_d at s.front' s.tile' s.back' b.role s.list used_d begins_d wanted mid join
-            join_same new cut cut_same) in
+            (t_still joinable wanted join cut) in
             SameBlock-trans (bytes_of w.bytes) (bytes_of d.bytes) (bytes_of new.bytes) both first second
 
         tree_new : IsTreeOf (bytes_of new.bytes) 24
             (payloads (sorted_gaps (gaps_of s.front' ++ gaps_of (rest_of s.back'))))
         tree_new =
-            let hs = gaps_of s.front' ++ gaps_of (rest_of s.back') in
-            let root : link_at (bytes_of new.bytes) 24 ≡ link_at (bytes_of d.bytes) 24 =
-            ap (target_of 24) (t_word d says_d at s.front' s.tile' s.back' b.role s.list used_d begins_d wanted mid
-            join join_same new cut cut_same) in
-            let cell = t_cell d says_d at s.front' s.tile' s.back' b.role s.list used_d begins_d wanted mid join
-            join_same new cut cut_same in
-            let old = tree_d.tree in
-            record {
-              tree = old.tree;
-              linked = subst (λ (l : Option ℕ). IsTree (cells_of (bytes_of new.bytes)) l old.tree) (sym root)
-                  (tree_same (cells_of (bytes_of d.bytes)) (cells_of (bytes_of new.bytes))
-                  (link_at (bytes_of d.bytes) 24) old.tree
-                  (λ m i. cell m (sym (in_sorted m hs) ∙ ap (λ (ns : List ℕ). is_in m ns) (sym old.lists)
-                  ∙ i)) old.linked);
-              red_black = old.red_black;
-              lists = old.lists;
-            }
+            gap_tree_stays (bytes_of d.bytes) (bytes_of new.bytes) (gaps_of s.front' ++ gaps_of (rest_of s.back'))
+            (ap (target_of 24) (t_word joinable wanted join cut)) (t_cell joinable wanted join cut) tree_d.tree
 
         gaps_new : gaps_in new ≡ gaps_of s.front'
-            ++ (gaps_of (t_cuts d says_d at s.front' s.tile' s.back' b.role s.list used_d begins_d wanted).left
+            ++ (gaps_of (t_cuts joinable wanted).left
             ++ gaps_of (rest_of s.back'))
-        gaps_new = t_gaps d says_d at s.front' s.tile' s.back' b.role s.list used_d begins_d wanted mid join
-            join_same new cut cut_same
+        gaps_new = t_gaps joinable wanted join cut
 
         -- whether a rest is left
         c_cut : (left : Bool) → ((ts : List Tile) (t : Tile) → EncodesTiles mid ts → tile_in ts at ≡ Some t
             → left ≡ nat_le (wanted + 32) t.len)
             → nat_le (wanted + 32) (b.tile.len + gap_after (live_of w.bytes) (extent_of b.tile b.role)) ≡ left
         c_cut left is =
-            let h1 = c_stands1 in
+            let h1 = t_stands1 joinable wanted join in
             subst (λ k. nat_le (wanted + 32) k ≡ left) long_d
             (sym (is h1.tiles (record s.tile' { len = s.tile'.len + j }) h1.said
-            (t_cut_at d says_d at s.front' s.tile' s.back' b.role s.list used_d begins_d wanted mid join join_same
-            new cut cut_same h1.tiles h1.said)))
+            (t_cut_at joinable wanted join h1.tiles h1.said)))
 
         c_whole : nat_le (wanted + 32) (b.tile.len + gap_after (live_of w.bytes) (extent_of b.tile b.role)) ≡ false
             → SplitsBlock current w new (at + 16) wanted
         c_whole e =
             let gs : gaps_in new ≡ gaps_of s.front' ++ gaps_of (rest_of s.back') =
             gaps_new ∙ ap (λ (ts : List Tile). gaps_of s.front' ++ (gaps_of ts ++ gaps_of (rest_of s.back')))
-            ((t_cuts d says_d at s.front' s.tile' s.back' b.role s.list used_d begins_d wanted).keeps
+            ((t_cuts joinable wanted).keeps
             (subst (λ k. nat_le (wanted + 32) k ≡ false) (sym long_d) e)) in
             record {
               extent = x;
@@ -279,7 +222,7 @@ module _ (w : WindowState) (at : ℕ) (heap : IsHeap current w.bytes) (b : Block
 
         rest_node : at + wanted + 16 ≡ node_of rest_gap
         unfolding rest_gap
-        rest_node = let e = begins_d in omega arith
+        rest_node = let e = joinable.at in omega arith
 
         fronts : List Gap
         fronts = gaps_of s.front'
@@ -295,7 +238,7 @@ module _ (w : WindowState) (at : ℕ) (heap : IsHeap current w.bytes) (b : Block
               said = says_new.said;
               merged = Apart-is_merged false (tiles_in new) says_new.apart;
               gaps = gaps_new ∙ ap (λ (ts : List Tile). gaps_of s.front' ++ (gaps_of ts ++ gaps_of (rest_of s.back')))
-                  ((t_cuts d says_d at s.front' s.tile' s.back' b.role s.list used_d begins_d wanted).splits
+                  ((t_cuts joinable wanted).splits
                   (subst (λ k. nat_le (wanted + 32) k ≡ true) (sym long_d) e));
               tree = tree_new;
             }
@@ -315,9 +258,6 @@ module _ (w : WindowState) (at : ℕ) (heap : IsHeap current w.bytes) (b : Block
           says_e : SaysHeap e (tiles_in e)
           says_e = tree_says e (fronts ++ (rest_gap ∷ backs)) planted
 
-          gaps_e : gaps_in e ≡ fronts ++ (rest_gap ∷ backs)
-          gaps_e = same_gaps (tiles_in new) (tiles_in e) regrown.tiles ∙ (c_lacks split).gaps
-
           c_split : SplitsBlock current w e (at + 16) wanted
           c_split =
               let last = subst (λ (l : LiveSet). KeepsBlocks new e l.extents) live_new
@@ -327,8 +267,7 @@ module _ (w : WindowState) (at : ℕ) (heap : IsHeap current w.bytes) (b : Block
               let whole = subst (λ (z : Extent). SameBlock (bytes_of new.bytes) (bytes_of e.bytes) z) y_is
               (regrown_block new e says_new.said says_e.said regrown
               (record s.tile' { len = share (s.tile'.len + j) wanted })
-              (t_in d says_d at s.front' s.tile' s.back' b.role s.list used_d begins_d wanted mid join join_same new
-              cut cut_same) b.role used_d) in
+              (t_in joinable wanted join cut) b.role joinable.in_use) in
               let third = front_block (bytes_of new.bytes) (bytes_of e.bytes) y
               (min b.tile.len (share (b.tile.len + gap_after (live_of w.bytes) (extent_of b.tile b.role)) wanted))
               (omega arith) whole in
@@ -336,10 +275,8 @@ module _ (w : WindowState) (at : ℕ) (heap : IsHeap current w.bytes) (b : Block
                 extent = x;
                 found = b.extent;
                 resized = record {
-                  live = subst (EncodesLiveSet current e.bytes) (regrown_live new e regrown ∙ live_new)
-                      (lays_out e says_e
-                      (subst (λ (hs : List Gap). IsTreeOf (bytes_of e.bytes) 24 (payloads (sorted_gaps hs)))
-                      (sym gaps_e) planted.tree));
+                  live = subst (EncodesLiveSet current e.bytes) live_new
+                      (planted_live new e (fronts ++ (rest_gap ∷ backs)) (c_lacks split).gaps planted regrown);
                   keeps = keeps-trans w new e (others (handle x) (live_of w.bytes).extents) keeps_new keep_last;
                   still = SameBlock-trans (bytes_of w.bytes) (bytes_of new.bytes)
                       (bytes_of e.bytes) both still_new third;

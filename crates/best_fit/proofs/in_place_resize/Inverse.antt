@@ -18,8 +18,7 @@ use Rattle.best_fit.proofs.extents.Proper.{IsHole, behind, behind-here, behind-p
 use Rattle.best_fit.proofs.exchange.OneExchange.{lengthened_at, not_lengthened, regrow-short}
 use Rattle.best_fit.proofs.extents.Order.{AllByRecursion-insert_from}
 use Rattle.best_fit.proofs.extents.Spacing.{Differs, IsAmong, IsFresh, Rising, found-new, in_use, live-rises}
-use Rattle.best_fit.proofs.extents.Spacing.{others-insert}
-use Rattle.best_fit.proofs.extents.Spacing.{rising-insert}
+use Rattle.best_fit.proofs.extents.Spacing.{others-insert, rising-insert}
 
 -- ---- the gap after a block of another length
 

@@ -3,11 +3,9 @@ use Rattle.best_fit.proofs.Common.{List, ◌≡◌, refl, sym, ap, subst, ◌∙
 use Rattle.best_fit.proofs.Common.{true, false, ◌&&◌, ◌||◌, ◌∷◌, ◌++◌, length, arith, nat_lt, nat_le, none-some}
 use Rattle.best_fit.proofs.Common.{same_Some, Option, Some, None, min, lt-leb, and_from, cases_lt, cond-true}
 use Rattle.best_fit.proofs.Common.{cond-false, le-leb, le-ltb, lt-ltb, or_left, or_right, WindowState, bytes_of}
-use Rattle.best_fit.proofs.Common.{current}
-use Rattle.best_fit.proofs.Common.{Extent, LiveSet, gap_after, insert, longer, others, resized, room, share, shorter}
-use Rattle.best_fit.proofs.Common.{TryExtends, IsHeap, ResizesBlock, ShrinksInPlace, EncodesLiveSet, live_of}
-use Rattle.best_fit.proofs.Common.{SplitsBlock, tile_in}
-use Rattle.best_fit.proofs.Common.{EncodesTiles, Tile, free_behind}
+use Rattle.best_fit.proofs.Common.{current, Extent, LiveSet, gap_after, insert, longer, others, resized, room, share}
+use Rattle.best_fit.proofs.Common.{shorter, TryExtends, IsHeap, ResizesBlock, ShrinksInPlace, EncodesLiveSet, live_of}
+use Rattle.best_fit.proofs.Common.{SplitsBlock, tile_in, EncodesTiles, Tile, free_behind}
 use Rattle.best_fit.proofs.extents.Changes.{is_extent-IsNeighbour, is_proper-IsProper}
 use Rattle.best_fit.proofs.tags.Frames.{SameBlock-refl, keeps-refl}
 use Rattle.best_fit.proofs.tags.TileJoins.{extents_of-around, insert_between, others_between}

@@ -2,27 +2,27 @@
 use Rattle.best_fit.proofs.Common.{◌≡◌, refl, sym, ap, subst, ◌∙◌, ℕ, ◌+◌, ◌-◌, ◌≤◌, inl, Bool, true, false, List, []}
 use Rattle.best_fit.proofs.Common.{◌∷◌, ◌++◌, length, arith, ◌==◌, IsTrue, Option, Some, None, find, min, eq-eqb}
 use Rattle.best_fit.proofs.Common.{both_ways, WindowState, bytes_of, Role, Tile, current, tile_in, is_free}
-use Rattle.best_fit.proofs.Common.{EncodesTiles, first_in, gap_offset, next_in}
-use Rattle.best_fit.proofs.Common.{SameExceptTags, HasTileAt, Extent, handle, gap_after, insert, is_extent, others}
-use Rattle.best_fit.proofs.Common.{resized, share, IsHeap, KeepsBlocks, live_of, cut_to, free_behind, free_len}
-use Rattle.best_fit.proofs.Common.{joined_free_at, with_free_behind, word_at, tiles_are_read_off, is_in, Gap}
-use Rattle.best_fit.proofs.Common.{cells_of, payloads, gaps_of, gaps_in, tiles_in, SameBlock}
-use Rattle.best_fit.specs.Tiling.{cut_at}
+use Rattle.best_fit.proofs.Common.{EncodesTiles, first_in, gap_offset, next_in, HasTileAt, Extent, handle, gap_after}
+use Rattle.best_fit.proofs.Common.{insert, is_extent, others, resized, share, IsHeap, KeepsBlocks, live_of, cut_to}
+use Rattle.best_fit.proofs.Common.{free_behind, free_len, joined_free_at, with_free_behind, word_at, tiles_are_read_off}
+use Rattle.best_fit.proofs.Common.{is_in, Gap, cells_of, payloads, gaps_of, gaps_in, tiles_in, SameBlock}
+use Rattle.best_fit.specs.Tiling.{ChangesTags, cut_at}
 use Rattle.best_fit.proofs.tags.RowParts.{Away, apart_back, apart_front, apart_joined, away_front, changed_at-around}
-use Rattle.best_fit.proofs.tags.RowParts.{next_in-around, row_back, row_end, row_reaches, tile_in-around}
+use Rattle.best_fit.proofs.tags.RowParts.{next_in-around, row_back, row_end, row_reaches}
 use Rattle.best_fit.proofs.extents.Changes.{is_extent-IsNeighbour, is_proper-IsProper, next_to}
 use Rattle.best_fit.proofs.tags.Frames.{SameBlock-trans, keeps-trans}
-use Rattle.best_fit.proofs.tags.TileJoins.{CutsTo, JoinsTo, cuts_to, joins_to, extents_of-append, extents_of-around}
-use Rattle.best_fit.proofs.tags.TileJoins.{insert_between, others_between, rest_of, row_before}
-use Rattle.best_fit.proofs.tags.TagsAndLiveSet.{SaysHeap, heap-says, said_row}
+use Rattle.best_fit.proofs.tags.TileJoins.{CutsTo, JoinsTo, cuts_to, joins_to, extents_of-append}
+use Rattle.best_fit.proofs.tags.TileJoins.{insert_between, rest_of, row_before}
+use Rattle.best_fit.proofs.tags.TagsAndLiveSet.{SaysHeap, heap-says, said_row, says_of}
 use Rattle.best_fit.proofs.extents.Proper.{behind, behind-here, behind-past, next_of}
 use Rattle.best_fit.proofs.tags.TileRows.{Row, Apart, unused, used, use_cases, extents_of, extent_of, extents_of-free}
 use Rattle.best_fit.proofs.tags.TileRows.{extents_of-used, unused-free, used-not_free, gaps_of-append, gaps_of-used}
-use Rattle.best_fit.proofs.tags.UnchangedTags.{Stays, around_keeps, in_back, step_block, step_word, In}
-use Rattle.best_fit.proofs.gaps.Nodes.{free_at, in_around, row_lies}
-use Rattle.best_fit.proofs.allocation.GapToBlock.{in_stands}
-use Rattle.best_fit.proofs.gaps.LinksOnly.{step_cell}
-use Rattle.best_fit.proofs.deallocation.OneGap.{in_parts_wide, in_rest}
+use Rattle.best_fit.proofs.tags.UnchangedTags.{In, Stays, TagStep, around_keeps, in_back, step_block}
+use Rattle.best_fit.proofs.tags.UnchangedTags.{step_word, tag_step}
+use Rattle.best_fit.proofs.gaps.Nodes.{free_at, in_around}
+use Rattle.best_fit.proofs.gaps.Setters.{step_cell}
+use Rattle.best_fit.proofs.deallocation.OneGap.{HasUsed, behind_at, in_parts_wide, in_rest, joined_keeps, stands_at}
+use Rattle.best_fit.proofs.deallocation.OneGap.{tile_at_is, used_apart, used_away, used_others, used_said}
 use Rattle.best_fit.proofs.tags.Writes.{Block}
 
 -- ---- the gap after a tile
@@ -135,245 +135,157 @@ module _ (old : WindowState) (heap : IsHeap current old.bytes) (h at : ℕ) (b :
 
 -- ---- the two steps, in a window in which the gap after has left the tree
 
-module _ (old : WindowState) (says : SaysHeap old (tiles_in old)) (at : ℕ) (front0 : List Tile) (tile0 : Tile)
-    (back0 : List Tile) (role : Role) (list0 : tiles_in old ≡ front0 ++ (tile0 ∷ back0))
-    (in_use : tile0.use_of ≡ Some role) (o : tile0.offset ≡ at) (wanted : ℕ) where
-  said0 : EncodesTiles old (front0 ++ (tile0 ∷ back0))
-  said0 = subst (EncodesTiles old) list0 says.said
-
+module _ {old : WindowState} {at : ℕ} (p : HasUsed old at) (wanted : ℕ) where
   -- the tile joined with the gap after it
-  pub t_joins : JoinsTo tile0 back0
-  t_joins = joins_to tile0 back0
+  pub t_joins : JoinsTo p.tile p.back
+  t_joins = joins_to p.tile p.back
 
   abbrev t_joined : Tile
-  t_joined = record tile0 { len = tile0.len + t_joins.gap }
+  t_joined = record p.tile { len = p.tile.len + t_joins.gap }
 
   -- the tile after the cut
-  pub t_cuts : CutsTo wanted (record tile0 { len = tile0.len + t_joins.gap }) t_joins.left
-  t_cuts = cuts_to wanted (record tile0 { len = tile0.len + t_joins.gap }) t_joins.left
+  pub t_cuts : CutsTo wanted (record p.tile { len = p.tile.len + t_joins.gap }) t_joins.left
+  t_cuts = cuts_to wanted (record p.tile { len = p.tile.len + t_joins.gap }) t_joins.left
 
   abbrev t_cut_tile : Tile
-  t_cut_tile = record tile0 { len = share (tile0.len + t_joins.gap) wanted }
+  t_cut_tile = record p.tile { len = share (p.tile.len + t_joins.gap) wanted }
 
-  abbrev t_extent : Extent
-  t_extent = extent_of tile0 role
+  abbrev t_list : List Tile
+  t_list = p.front ++ (t_cut_tile ∷ (t_cuts.left ++ t_joins.left))
 
-  t_row : Row 128 (front0 ++ (tile0 ∷ back0)) (length old.bytes - 16)
-  t_row = said_row old (front0 ++ (tile0 ∷ back0)) said0
+  abbrev result : Extent
+  result = record { offset = p.tile.offset; len = share (p.tile.len + t_joins.gap) wanted; role = p.role }
 
-  t_away : Away at front0
-  t_away = subst (λ k. Away k front0) o (away_front 128 front0 tile0 back0 (length old.bytes - 16) t_row)
-
-  t_extents : (live_of old.bytes).extents ≡ extents_of (front0 ++ (tile0 ∷ back0))
-  unfolding live_of
-  t_extents = ap extents_of list0
+  -- the block, as long as it is before and after
+  abbrev both_len : Extent
+  both_len = record (extent_of p.tile p.role) { len = min p.tile.len (share (p.tile.len + t_joins.gap) wanted) }
 
   -- the tile is at its offset before
   pub t_stands0 : HasTileAt old at
-  t_stands0 = record {
-    tiles = front0 ++ (tile0 ∷ back0);
-    said = said0;
-    tile = tile0;
-    stands = tile_in-around at tile0 back0 o front0 t_away;
-  }
+  t_stands0 = stands_at p.front (used_away p) p.tile p.back p.at (used_said p)
 
   -- and the gap after it where it was read
-  pub t_behind0 : (ts : List Tile) → EncodesTiles old ts → gap_offset (next_in ts at) ≡ gap_offset (first_in back0)
-  t_behind0 ts said =
-      ap (λ (us : List Tile). gap_offset (next_in us at))
-      (sym (tiles_are_read_off old ts said) ∙ tiles_are_read_off old (front0 ++ (tile0 ∷ back0)) said0)
-      ∙ ap gap_offset (next_in-around at tile0 back0 o front0 t_away)
+  pub t_behind0 : (ts : List Tile) → EncodesTiles old ts → gap_offset (next_in ts at) ≡ gap_offset (first_in p.back)
+  t_behind0 = behind_at p.front (used_away p) p.tile p.back p.at (used_said p)
 
-  module _ (mid : WindowState) (join : (ts : List Tile) → EncodesTiles old ts → EncodesTiles mid (joined_free_at at ts))
-      (join_same : (ts : List Tile) → EncodesTiles old ts → SameExceptTags old mid ts (joined_free_at at ts)) where
-    list1 : joined_free_at at (front0 ++ (tile0 ∷ back0)) ≡ front0 ++ (t_joined ∷ t_joins.left)
-    list1 = changed_at-around at tile0 back0 o with_free_behind front0 t_away
-        ∙ ap (λ (ts : List Tile). front0 ++ ts) t_joins.is
-
-    said1 : EncodesTiles mid (front0 ++ (t_joined ∷ t_joins.left))
-    said1 = subst (EncodesTiles mid) list1 (join (front0 ++ (tile0 ∷ back0)) said0)
-
-    same1 : SameExceptTags old mid (front0 ++ (tile0 ∷ back0)) (front0 ++ (t_joined ∷ t_joins.left))
-    same1 = subst (SameExceptTags old mid (front0 ++ (tile0 ∷ back0))) list1
-        (join_same (front0 ++ (tile0 ∷ back0)) said0)
+  module _ {mid : WindowState} (join : ChangesTags old mid (joined_free_at at)) where
+    step1 : TagStep old mid (p.front ++ (p.tile ∷ p.back)) (p.front ++ (t_joined ∷ t_joins.left))
+    step1 = tag_step (p.front ++ (p.tile ∷ p.back)) (p.front ++ (t_joined ∷ t_joins.left)) (used_said p)
+        (changed_at-around at p.tile p.back p.at with_free_behind p.front (used_away p)
+        ∙ ap (λ (ts : List Tile). p.front ++ ts) t_joins.is) join
 
     -- the tile is at its offset in between
     pub t_stands1 : HasTileAt mid at
-    t_stands1 = record {
-      tiles = front0 ++ (t_joined ∷ t_joins.left);
-      said = said1;
-      tile = t_joined;
-      stands = tile_in-around at t_joined t_joins.left o front0 t_away;
-    }
+    t_stands1 = stands_at p.front (used_away p) t_joined t_joins.left p.at step1.says
 
-    module _ (new : WindowState) (cut : (ts : List Tile) → EncodesTiles mid ts → EncodesTiles new (cut_at at wanted ts))
-        (cut_same : (ts : List Tile) → EncodesTiles mid ts → SameExceptTags mid new ts (cut_at at wanted ts)) where
-      list2 : cut_at at wanted (front0 ++ (t_joined ∷ t_joins.left)) ≡ front0
-          ++ (t_cut_tile ∷ (t_cuts.left ++ t_joins.left))
-      list2 = changed_at-around at t_joined t_joins.left o (cut_to wanted) front0 t_away
-          ∙ ap (λ (ts : List Tile). front0 ++ ts) t_cuts.is
+    -- the tile that is cut is the joined one
+    pub t_cut_at : (ts : List Tile) → EncodesTiles mid ts
+        → tile_in ts at ≡ Some (record p.tile { len = p.tile.len + t_joins.gap })
+    t_cut_at = tile_at_is p.front (used_away p) t_joined t_joins.left p.at step1.says
 
-      said2 : EncodesTiles new (front0 ++ (t_cut_tile ∷ (t_cuts.left ++ t_joins.left)))
-      said2 = subst (EncodesTiles new) list2 (cut (front0 ++ (t_joined ∷ t_joins.left)) said1)
+    module _ {new : WindowState} (cut : ChangesTags mid new (cut_at at wanted)) where
+      step2 : TagStep mid new (p.front ++ (t_joined ∷ t_joins.left)) t_list
+      step2 = tag_step (p.front ++ (t_joined ∷ t_joins.left)) t_list step1.says
+          (changed_at-around at t_joined t_joins.left p.at (cut_to wanted) p.front (used_away p)
+          ∙ ap (λ (ts : List Tile). p.front ++ ts) t_cuts.is) cut
 
-      same2 : SameExceptTags mid new (front0 ++ (t_joined ∷ t_joins.left))
-          (front0 ++ (t_cut_tile ∷ (t_cuts.left ++ t_joins.left)))
-      same2 = subst (SameExceptTags mid new (front0 ++ (t_joined ∷ t_joins.left))) list2
-          (cut_same (front0 ++ (t_joined ∷ t_joins.left)) said1)
-
-      abbrev result : Extent
-      result = record { offset = tile0.offset; len = share (tile0.len + t_joins.gap) wanted; role = role }
-
-      left_extents : others (at + 16) (live_of old.bytes).extents ≡ extents_of front0 ++ extents_of back0
-      left_extents =
-          ap (others (at + 16)) (t_extents ∙ extents_of-around front0 tile0 back0 role in_use)
-          ∙ others_between 128 front0 tile0 back0 (length old.bytes - 16) t_extent (at + 16) t_row
-          refl (ap (λ k. k + 16) o)
-
-      new_extents : extents_of (front0 ++ (t_cut_tile ∷ (t_cuts.left ++ t_joins.left))) ≡ insert result
-          (others (at + 16) (live_of old.bytes).extents)
+      new_extents : extents_of t_list ≡ insert result (others (at + 16) (live_of old.bytes).extents)
       new_extents =
-          extents_of-append front0 (t_cut_tile ∷ (t_cuts.left ++ t_joins.left))
-          ∙ ap (λ xs. extents_of front0 ++ xs) (extents_of-used t_cut_tile (t_cuts.left ++ t_joins.left) role in_use)
-          ∙ ap (λ xs. extents_of front0 ++ (result ∷ xs)) (t_cuts.extents ∙ sym t_joins.extents)
-          ∙ sym (ap (insert result) left_extents
-          ∙ insert_between 128 front0 tile0 back0 (length old.bytes - 16) result t_row refl)
+          extents_of-append p.front (t_cut_tile ∷ (t_cuts.left ++ t_joins.left))
+          ∙ ap (λ xs. extents_of p.front ++ xs) (extents_of-used t_cut_tile (t_cuts.left ++ t_joins.left) p.role
+          p.in_use)
+          ∙ ap (λ xs. extents_of p.front ++ (result ∷ xs)) (t_cuts.extents ∙ sym t_joins.extents)
+          ∙ sym (ap (insert result) (used_others p)
+          ∙ insert_between 128 p.front p.tile p.back (length old.bytes - 16) result
+          (said_row old (p.front ++ (p.tile ∷ p.back)) (used_said p)) refl)
 
-      joined_extents : extents_of front0 ++ extents_of t_joins.left ≡ extents_of front0 ++ extents_of back0
-      joined_extents = ap (λ xs. extents_of front0 ++ xs) (sym t_joins.extents)
+      keeps2 : KeepsBlocks mid new (extents_of p.front ++ extents_of p.back)
+      keeps2 = subst (λ xs. KeepsBlocks mid new (extents_of p.front ++ xs)) (sym t_joins.extents)
+          (around_keeps p.front (t_joined ∷ []) (t_cut_tile ∷ t_cuts.left) t_joins.left step2)
 
-      keeps1 : KeepsBlocks old mid (extents_of front0 ++ extents_of back0)
-      keeps1 =
-          let list : front0 ++ (tile0 ∷ back0) ≡ front0 ++ (tile0 ∷ (t_joins.gone ++ t_joins.left)) =
-          ap (λ (ts : List Tile). front0 ++ (tile0 ∷ ts)) t_joins.list in
-          subst (KeepsBlocks old mid) joined_extents (around_keeps old mid front0 (tile0 ∷ t_joins.gone) (t_joined ∷ [])
-          t_joins.left (subst (EncodesTiles old) list said0) said1
-          (subst (λ (ts : List Tile). SameExceptTags old mid ts (front0 ++ (t_joined ∷ t_joins.left))) list same1))
+      -- a tile that stays at its place, with another length
+      still : (t u : Tile) (ts us : List Tile) → t.offset ≡ p.tile.offset → u.offset ≡ p.tile.offset
+          → u.use_of ≡ t.use_of → u.red ≡ t.red → both_len.len ≤ t.len → both_len.len ≤ u.len
+          → Stays (p.front ++ (t ∷ ts)) (p.front ++ (u ∷ us)) both_len
+      still t u ts us a b same red l k = record {
+        old = t;
+        new = u;
+        in_old = in_back t p.front (t ∷ ts) (inl refl);
+        in_new = in_back u p.front (u ∷ us) (inl refl);
+        at_old = a;
+        at_new = b;
+        same_use = same;
+        red = red;
+        within_old = l;
+        within_new = k;
+      }
 
-      keeps2 : KeepsBlocks mid new (extents_of front0 ++ extents_of back0)
-      keeps2 = subst (KeepsBlocks mid new) joined_extents
-          (around_keeps mid new front0 (t_joined ∷ []) (t_cut_tile ∷ t_cuts.left) t_joins.left said1 said2 same2)
-
-      still_old : Stays (front0 ++ (tile0 ∷ back0)) (front0 ++ (t_joined ∷ t_joins.left))
-          (record t_extent { len = min tile0.len (share (tile0.len + t_joins.gap) wanted) })
-      still_old =
-          record {
-            old = tile0;
-            new = t_joined;
-            in_old = in_back tile0 front0 (tile0 ∷ back0) (inl refl);
-            in_new = in_back t_joined front0 (t_joined ∷ t_joins.left) (inl refl);
-            at_old = refl;
-            at_new = refl;
-            same_use = refl;
-            red = refl;
-            within_old = omega arith;
-            within_new = omega arith;
-          }
-
-      still_new : Stays (front0 ++ (t_joined ∷ t_joins.left)) (front0 ++ (t_cut_tile ∷ (t_cuts.left ++ t_joins.left)))
-          (record t_extent { len = min tile0.len (share (tile0.len + t_joins.gap) wanted) })
-      still_new =
-          record {
-            old = t_joined;
-            new = t_cut_tile;
-            in_old = in_back t_joined front0 (t_joined ∷ t_joins.left) (inl refl);
-            in_new = in_back t_cut_tile front0 (t_cut_tile ∷ (t_cuts.left ++ t_joins.left)) (inl refl);
-            at_old = refl;
-            at_new = refl;
-            same_use = refl;
-            red = refl;
-            within_old = omega arith;
-            within_new = omega arith;
-          }
-
-      new_apart : Apart false (front0 ++ (t_cut_tile ∷ (t_cuts.left ++ t_joins.left)))
+      new_apart : Apart false t_list
       new_apart =
-          let apart : Apart false (front0 ++ (tile0 ∷ back0)) = subst (Apart false) list0 says.apart in
-          let behind_it = apart_back false front0 (tile0 ∷ back0) apart in
-          let no_free = used-not_free tile0 role in_use in
-          apart_joined false front0 (t_cut_tile ∷ (t_cuts.left ++ t_joins.left))
-          (apart_front false front0 (tile0 ∷ back0) apart) (
-            λ last f. both_ways (is_free tile0) no_free f,
+          let behind_it = apart_back false p.front (p.tile ∷ p.back) (used_apart p) in
+          let no_free = used-not_free p.tile p.role p.in_use in
+          apart_joined false p.front (t_cut_tile ∷ (t_cuts.left ++ t_joins.left))
+          (apart_front false p.front (p.tile ∷ p.back) (used_apart p)) (
+            λ last f. both_ways (is_free p.tile) no_free f,
             subst (λ (v : Bool). Apart v (t_cuts.left ++ t_joins.left))
-                (sym no_free) (t_cuts.apart (t_joins.apart (is_free tile0) behind_it.1)),
+                (sym no_free) (t_cuts.apart (t_joins.apart (is_free p.tile) behind_it.1)),
           )
 
       -- the tiles with the block resized
       pub t_says : SaysHeap new (tiles_in new)
-      t_says = let e = tiles_are_read_off new (front0 ++ (t_cut_tile ∷ (t_cuts.left ++ t_joins.left))) said2 in
-          record { said = subst (EncodesTiles new) (sym e) said2; apart = subst (Apart false) (sym e) new_apart }
+      t_says = says_of new t_list step2.says new_apart
 
       pub t_live : live_of new.bytes ≡ resized (live_of old.bytes)
-          (record { offset = tile0.offset; len = share (tile0.len + t_joins.gap) wanted; role = role })
+          (record { offset = p.tile.offset; len = share (p.tile.len + t_joins.gap) wanted; role = p.role })
       unfolding live_of
       t_live =
-          let size = same2.size ∙ same1.size in
-          let x = ap extents_of
-          (tiles_are_read_off new (front0 ++ (t_cut_tile ∷ (t_cuts.left ++ t_joins.left))) said2) ∙ new_extents
-          ∙ ap (λ k. insert result (others (k + 16) (live_of old.bytes).extents)) (sym o) in
+          let size = step2.same.size ∙ step1.same.size in
+          let x = ap extents_of (tiles_are_read_off new t_list step2.says) ∙ new_extents
+          ∙ ap (λ k. insert result (others (k + 16) (live_of old.bytes).extents)) (sym p.at) in
           λ i. record { size = size i; extents = x i }
 
       pub t_keeps : KeepsBlocks old new (others (at + 16) (live_of old.bytes).extents)
-      t_keeps = subst (KeepsBlocks old new) (sym left_extents)
-          (keeps-trans old mid new (extents_of front0 ++ extents_of back0) keeps1 keeps2)
+      t_keeps = subst (KeepsBlocks old new) (sym (used_others p))
+          (keeps-trans old mid new (extents_of p.front ++ extents_of p.back)
+          (joined_keeps p.front p.tile t_joined p.back t_joins step1) keeps2)
 
       pub t_still : SameBlock (bytes_of old.bytes) (bytes_of new.bytes)
-          (record (extent_of tile0 role) { len = min tile0.len (share (tile0.len + t_joins.gap) wanted) })
+          (record (extent_of p.tile p.role) { len = min p.tile.len (share (p.tile.len + t_joins.gap) wanted) })
       t_still =
-          SameBlock-trans (bytes_of old.bytes) (bytes_of mid.bytes) (bytes_of new.bytes)
-          (record t_extent { len = min tile0.len (share (tile0.len + t_joins.gap) wanted) })
-          (step_block old mid (front0 ++ (tile0 ∷ back0)) (front0 ++ (t_joined ∷ t_joins.left)) said0 said1 same1
-          (record t_extent { len = min tile0.len (share (tile0.len + t_joins.gap) wanted) }) still_old)
-          (step_block mid new (front0 ++ (t_joined ∷ t_joins.left))
-          (front0 ++ (t_cut_tile ∷ (t_cuts.left ++ t_joins.left))) said1 said2 same2
-          (record t_extent { len = min tile0.len (share (tile0.len + t_joins.gap) wanted) }) still_new)
+          SameBlock-trans (bytes_of old.bytes) (bytes_of mid.bytes) (bytes_of new.bytes) both_len
+          (step_block step1 both_len (still p.tile t_joined p.back t_joins.left refl refl refl refl (omega arith)
+          (omega arith)))
+          (step_block step2 both_len (still t_joined t_cut_tile t_joins.left (t_cuts.left ++ t_joins.left) refl refl
+          refl refl (omega arith) (omega arith)))
 
-      pub t_gaps : gaps_in new ≡ gaps_of front0 ++ (gaps_of t_cuts.left ++ gaps_of (rest_of back0))
+      pub t_gaps : gaps_in new ≡ gaps_of p.front ++ (gaps_of t_cuts.left ++ gaps_of (rest_of p.back))
       t_gaps =
-          ap gaps_of (tiles_are_read_off new (front0 ++ (t_cut_tile ∷ (t_cuts.left ++ t_joins.left))) said2)
-          ∙ gaps_of-append front0 (t_cut_tile ∷ (t_cuts.left ++ t_joins.left))
-          ∙ ap (λ (hs : List Gap). gaps_of front0 ++ hs) (gaps_of-used t_cut_tile (t_cuts.left ++ t_joins.left) role
-          in_use ∙ gaps_of-append t_cuts.left t_joins.left
+          ap gaps_of (tiles_are_read_off new t_list step2.says)
+          ∙ gaps_of-append p.front (t_cut_tile ∷ (t_cuts.left ++ t_joins.left))
+          ∙ ap (λ (hs : List Gap). gaps_of p.front ++ hs) (gaps_of-used t_cut_tile (t_cuts.left ++ t_joins.left) p.role
+          p.in_use ∙ gaps_of-append t_cuts.left t_joins.left
           ∙ ap (λ (hs : List Gap). gaps_of t_cuts.left ++ hs) t_joins.gaps)
 
       pub t_word : word_at (bytes_of new.bytes) 24 ≡ word_at (bytes_of old.bytes) 24
-      t_word =
-          step_word mid new (front0 ++ (t_joined ∷ t_joins.left))
-          (front0 ++ (t_cut_tile ∷ (t_cuts.left ++ t_joins.left))) said1 said2 same2
-          ∙ step_word old mid (front0 ++ (tile0 ∷ back0)) (front0 ++ (t_joined ∷ t_joins.left)) said0 said1 same1
+      t_word = step_word step2 ∙ step_word step1
 
-      pub t_cell : (m : ℕ) → is_in m (payloads (gaps_of front0 ++ gaps_of (rest_of back0))) ≡ true
+      pub t_cell : (m : ℕ) → is_in m (payloads (gaps_of p.front ++ gaps_of (rest_of p.back))) ≡ true
           → cells_of (bytes_of new.bytes) m ≡ cells_of (bytes_of old.bytes) m
       t_cell m i =
-          let f = free_at (front0 ++ rest_of back0) m
-          (subst (λ (hs : List Gap). is_in m (payloads hs) ≡ true) (sym (gaps_of-append front0 (rest_of back0))) i) in
+          let f = free_at (p.front ++ rest_of p.back) m
+          (subst (λ (hs : List Gap). is_in m (payloads hs) ≡ true) (sym (gaps_of-append p.front (rest_of p.back))) i) in
           let u = f.tile in
-          let h : In u (front0 ++ rest_of back0) = subst (λ (us : List Tile). In u us) (sym f.list)
+          let h : In u (p.front ++ rest_of p.back) = subst (λ (us : List Tile). In u us) (sym f.list)
           (in_around f.front u f.back) in
-          let i0 : In u (front0 ++ (tile0 ∷ back0)) = in_parts_wide u front0 (rest_of back0) front0 (tile0 ∷ []) back0
-          (λ a. a) (in_rest u back0) h in
-          let i1 : In u (front0 ++ (t_joined ∷ t_joins.left)) = in_parts_wide u front0 (rest_of back0) front0
+          let i0 : In u (p.front ++ (p.tile ∷ p.back)) = in_parts_wide u p.front (rest_of p.back) p.front (p.tile ∷ [])
+          p.back (λ a. a) (in_rest u p.back) h in
+          let i1 : In u (p.front ++ (t_joined ∷ t_joins.left)) = in_parts_wide u p.front (rest_of p.back) p.front
           (t_joined ∷ []) t_joins.left (λ a. a) (t_joins.rest_in u) h in
-          let i2 : In u (front0 ++ (t_cut_tile ∷ (t_cuts.left ++ t_joins.left))) = in_parts_wide u front0
-          (rest_of back0) front0 (t_cut_tile ∷ t_cuts.left) t_joins.left (λ a. a) (t_joins.rest_in u) h in
-          let long = (row_lies 128 (front0 ++ (tile0 ∷ back0)) (length old.bytes - 16) u t_row i0).long in
-          step_cell mid new (front0 ++ (t_joined ∷ t_joins.left))
-          (front0 ++ (t_cut_tile ∷ (t_cuts.left ++ t_joins.left))) said1 said2 same2 u m i1 i2 f.at long
-          (in_stands mid (front0 ++ (t_joined ∷ t_joins.left)) u said1 i1)
-          (in_stands new (front0 ++ (t_cut_tile ∷ (t_cuts.left ++ t_joins.left))) u said2 i2)
-          ∙ step_cell old mid (front0 ++ (tile0 ∷ back0)) (front0 ++ (t_joined ∷ t_joins.left)) said0 said1 same1 u m
-          i0 i1 f.at long (in_stands old (front0 ++ (tile0 ∷ back0)) u said0 i0)
-          (in_stands mid (front0 ++ (t_joined ∷ t_joins.left)) u said1 i1)
+          let i2 : In u t_list = in_parts_wide u p.front (rest_of p.back) p.front (t_cut_tile ∷ t_cuts.left)
+          t_joins.left (λ a. a) (t_joins.rest_in u) h in
+          step_cell step2 u m i1 i2 f.at ∙ step_cell step1 u m i0 i1 f.at
 
-      pub t_in : In (record tile0 { len = share (tile0.len + t_joins.gap) wanted }) (tiles_in new)
+      pub t_in : In (record p.tile { len = share (p.tile.len + t_joins.gap) wanted }) (tiles_in new)
       t_in =
-          subst (λ (us : List Tile). In t_cut_tile us)
-          (sym (tiles_are_read_off new (front0 ++ (t_cut_tile ∷ (t_cuts.left ++ t_joins.left))) said2))
-          (in_around front0 t_cut_tile (t_cuts.left ++ t_joins.left))
-
-      pub t_cut_at : (ts : List Tile) → EncodesTiles mid ts
-          → tile_in ts at ≡ Some (record tile0 { len = tile0.len + t_joins.gap })
-      t_cut_at ts said =
-          ap (λ (us : List Tile). tile_in us at) (sym (tiles_are_read_off mid ts said)
-          ∙ tiles_are_read_off mid (front0 ++ (t_joined ∷ t_joins.left)) said1)
-          ∙ tile_in-around at t_joined t_joins.left o front0 t_away
+          subst (λ (us : List Tile). In t_cut_tile us) (sym (tiles_are_read_off new t_list step2.says))
+          (in_around p.front t_cut_tile (t_cuts.left ++ t_joins.left))

@@ -1,14 +1,11 @@
 -- A block's payload is lent for writing: any write keeps the heap.
-use Rattle.best_fit.proofs.Common.{◌≡◌, refl, sym, ap, subst, ◌∙◌, ℕ, ◌+◌, ◌-◌, ◌≤◌, List, length, arith, IsTrue}
-use Rattle.best_fit.proofs.Common.{Some, None, length_refill, refill, WindowState, HasBytesAt, SameBytesExcept}
-use Rattle.best_fit.proofs.Common.{bytes_of, part, patched}
-use Rattle.best_fit.proofs.Common.{with_bytes, length-part, length-patched, patched-HasBytesAt, patched-SameBytesExcept}
-use Rattle.best_fit.proofs.Common.{refill-all}
-use Rattle.best_fit.proofs.Common.{with_bytes-SameSurroundings, current, Tile, tile_in, HasTileAt, EncodesTiles}
-use Rattle.best_fit.proofs.Common.{ChangesBytes}
-use Rattle.best_fit.proofs.Common.{IsHeap, is_live_in, live_of}
+use Rattle.best_fit.proofs.Common.{◌≡◌, refl, sym, ap, subst, ◌∙◌, ℕ, ◌+◌, ◌-◌, ◌≤◌, List, length, arith, IsTrue, Some}
+use Rattle.best_fit.proofs.Common.{None, length_refill, refill, WindowState, HasBytesAt, SameBytesExcept, bytes_of}
+use Rattle.best_fit.proofs.Common.{part, patched, with_bytes, length-part, length-patched, patched-HasBytesAt}
+use Rattle.best_fit.proofs.Common.{patched-SameBytesExcept, refill-all, with_bytes-SameSurroundings, current, HasTileAt}
+use Rattle.best_fit.proofs.Common.{ChangesBytes, Extent, IsHeap, extent_at, is_live_in, live_of, option_map, same_Some}
 use Rattle.best_fit.specs.Heap.{LoansWriteOneBlock, payload_len, with_payload}
-use Rattle.best_fit.proofs.tags.Writes.{Block, Room, block_len, block_tile, live_block, payload_changed}
+use Rattle.best_fit.proofs.tags.Writes.{Block, Room, block_tile, live_block, payload_changed}
 
 -- a live block of the window that a heap is seen as
 pub record LiveAt (c : WindowState) (h : ℕ) : Type 0 where
@@ -44,22 +41,21 @@ live_tag v c d h e f heap live =
           (subst (λ k. IsTrue (is_live_in (live_of v.bytes) k)) (sym same) live),
     )
 
--- such a block, whose tile was read
-pub record ReadAt (c : WindowState) (h len : ℕ) : Type 0 where
+-- such a block, with n bytes of payload
+pub record ReadAt (c : WindowState) (h n : ℕ) : Type 0 where
   pub block : Block c h
-  pub low : 144 ≤ h
-  pub payload : len - 16 ≡ block.tile.len - 16
-  pub inside : h + (len - 16) ≤ length c.bytes
-  pub long : 32 ≤ len
+  pub payload : n ≡ block.tile.len - 16
+  pub inside : h + n ≤ length c.bytes
 
--- the length of a block in use, read of its tile
+-- a block in use with the length of its payload
 pub read_at : (v c : WindowState) (h : ℕ) → v ≡ c → IsHeap current c.bytes → IsTrue (is_live_in (live_of v.bytes) h)
-    → (t : Tile) → ((ts : List Tile) → EncodesTiles c ts → tile_in ts (h - 16) ≡ Some t) → ReadAt c h t.len
-read_at v c h e heap live t is =
-    let s = live_at v c h e heap live in
-    let low = s.low in let inside = s.inside in let long = s.long in
-    let len = block_len c h (h - 16) s.block (omega arith) t is in
-    record { block = s.block; low = low; payload = ap (λ k. k - 16) len; inside = omega arith; long = omega arith }
+    → (n : ℕ) → option_map (λ (x : Extent). x.len - 16) (extent_at (live_of v.bytes) h) ≡ Some n → ReadAt c h n
+read_at v c h e heap live n is =
+    let s = live_at v c h e heap live in let inside = s.inside in
+    let len = same_Some n (s.block.tile.len - 16) (sym is
+    ∙ ap (λ (u : WindowState). option_map (λ (x : Extent). x.len - 16) (extent_at (live_of u.bytes) h)) e
+    ∙ ap (option_map (λ (x : Extent). x.len - 16)) s.block.extent) in
+    record { block = s.block; payload = len; inside = omega arith }
 
 -- bytes written in a payload change that block alone
 pub payload_written : (c : WindowState) (h n : ℕ) (ws : List ℕ) → IsHeap current c.bytes → (b : Block c h)

@@ -1,9 +1,8 @@
 -- Blocks that stay: blocks outside a change, and blocks that each of two changes keeps.
-use Rattle.best_fit.proofs.Common.{refl, ap, ◌∙◌, ℕ, ◌+◌, ◌%◌, ◌≤◌, ◌⊎◌, List, [], ◌∷◌, arith, AllByRecursion, inl}
-use Rattle.best_fit.proofs.Common.{inr, Memory, WindowState, SameBytes, SameBytesExcept, bytes_of, SameBytes-refl}
-use Rattle.best_fit.proofs.Common.{SameBytes-trans, SameBytesExcept-SameBytes}
-use Rattle.best_fit.proofs.Common.{SameBytesExcept-word, SameSurroundings-trans, Extent, handle, end_of, insert, others}
-use Rattle.best_fit.proofs.Common.{SameBlock}
+use Rattle.best_fit.proofs.Common.{refl, ap, ◌∙◌, ℕ, ◌+◌, ◌%◌, ◌≤◌, ◌⊎◌, List, [], ◌∷◌, arith, AllByRecursion, inl, inr}
+use Rattle.best_fit.proofs.Common.{Memory, WindowState, SameBytes, SameBytesExcept, bytes_of, SameBytes-refl}
+use Rattle.best_fit.proofs.Common.{SameBytes-trans, SameBytesExcept-SameBytes, SameBytesExcept-word}
+use Rattle.best_fit.proofs.Common.{SameSurroundings-trans, Extent, handle, end_of, insert, others, SameBlock}
 use Rattle.best_fit.proofs.Common.{KeepsBlocks}
 use Rattle.best_fit.proofs.extents.Order.{AllByRecursion-insert, AllByRecursion-others}
 

@@ -8,8 +8,7 @@ use Rattle.block_tags.proofs.Laws.{tiles_fill_the_window}
 use Rattle.best_fit.proofs.extents.Changes.{is_proper-IsProper}
 use Rattle.best_fit.proofs.extents.Gaps.{gap_between-none}
 use Rattle.best_fit.proofs.tags.TileRows.{Row, AreContiguous-Row, Apart, is_merged-Apart, Apart-is_merged, extents_of}
-use Rattle.best_fit.proofs.tags.TileRows.{gaps_from-row}
-use Rattle.best_fit.proofs.tags.TileRows.{proper_from-row, spans_from-row, span_between-none}
+use Rattle.best_fit.proofs.tags.TileRows.{gaps_from-row, proper_from-row, spans_from-row, span_between-none}
 
 -- a legal size, as facts
 pub record IsLegal (n : ℕ) : Type 0 where
@@ -26,6 +25,11 @@ pub record SaysHeap (c : WindowState) (ts : List Tile) : Type 0 where
   pub said : EncodesTiles c ts
   pub apart : Apart false ts
 
+-- tags that describe tiles without free neighbours
+pub says_of : (c : WindowState) (ts : List Tile) → EncodesTiles c ts → Apart false ts → SaysHeap c (tiles_in c)
+says_of c ts said apart = subst (SaysHeap c) (sym (tiles_are_read_off c ts said))
+    (record { said = said; apart = apart })
+
 -- the live set of tiles
 abbrev pub live_in : ℕ → List Tile → LiveSet
 live_in n ts = record { size = n; extents = extents_of ts }
@@ -39,8 +43,7 @@ pub heap-says : (c : WindowState) → IsHeap current c.bytes → SaysHeap c (til
 unfolding live_of
 heap-says c h =
     let good = (good_tags_say_tiles c (is_proper-IsProper (live_of c.bytes) h.proper).size).0 h.tiles.tags in
-    let says : SaysHeap c good.0 = record { said = good.1; apart = is_merged-Apart good.0 good.2 } in
-    subst (SaysHeap c) (sym (tiles_are_read_off c good.0 good.1)) says
+    says_of c good.0 good.1 (is_merged-Apart good.0 good.2)
 
 -- the extents of the tiles of tags are proper
 pub proper_live : (n : ℕ) (ts : List Tile) → IsTrue (is_legal_size n) → Row 128 ts (n - 16) → Apart false ts

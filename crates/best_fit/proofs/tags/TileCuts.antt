@@ -2,14 +2,30 @@
 use Rattle.best_fit.proofs.Common.{◌≡◌, refl, sym, ap, subst, ◌∙◌, ℕ, ◌+◌, ◌-◌, ◌<◌, ◌≤◌, List, [], ◌∷◌, ◌++◌, length}
 use Rattle.best_fit.proofs.Common.{append_assoc, nat_lt, Option, Some, None, cond-true, cond-false, lt-ltb}
 use Rattle.best_fit.proofs.Common.{le-ltb, WindowState, Tile, first_in, in_two, next_in, previous_in, tile_in, is_free}
-use Rattle.best_fit.proofs.Common.{HasFreeNext, HasTileAt, EncodesTiles, one_tile_at_an_offset, cut_to, gap_offset}
+use Rattle.best_fit.proofs.Common.{HasFreeNext, HasTileAt, EncodesTiles, SameExceptTags, one_tile_at_an_offset}
+use Rattle.best_fit.proofs.Common.{cut_to, gap_offset}
 use Rattle.best_fit.proofs.Common.{joined_free_at, with_free_behind, none-some, same_Some, true, false, if◌then◌else◌}
 use Rattle.block_tags.specs.Lists.{in_one, joined_at, split_at}
 use Rattle.block_tags.proofs.Laws.{tile_stands_in_list}
-use Rattle.best_fit.specs.Tiling.{cut_at}
+use Rattle.best_fit.specs.Tiling.{ChangesTags, cut_at}
 use Rattle.best_fit.proofs.tags.RowParts.{EndsWith, away_front, last_in-EndsWith, next_in-around}
 use Rattle.best_fit.proofs.tags.TagsAndLiveSet.{said_row}
 use Rattle.best_fit.proofs.tags.TileRows.{unused, used, use_cases, unused-free, used-not_free}
+
+-- a change of tags is another one whose lists are the same
+pub changes_as : {old new : WindowState} {f g : List Tile → List Tile} → ((ts : List Tile) → EncodesTiles old ts
+    → f ts ≡ g ts) → ChangesTags old new g → ChangesTags old new f
+changes_as {old} {new} e c = record {
+  tags = λ ts said. subst (EncodesTiles new) (sym (e ts said)) (c.tags ts said);
+  frame = λ ts said. subst (SameExceptTags old new ts) (sym (e ts said)) (c.frame ts said);
+}
+
+-- no tag changes
+pub same_tags : (c : WindowState) → ChangesTags c c (λ ts. ts)
+same_tags c = record {
+  tags = λ ts said. said;
+  frame = λ ts said. record { place = record { before = refl; after = refl }; size = refl; bytes = λ k a b l. refl };
+}
 
 -- a tile that is long enough is cut in two
 pub cut_list : (ts : List Tile) (at len : ℕ) (t : Tile) → tile_in ts at ≡ Some t → len + 32 ≤ t.len

@@ -2,9 +2,8 @@
 use Rattle.best_fit.proofs.Common.{◌≡◌, refl, sym, ap, subst, ◌∙◌, ℕ, ◌+◌, ◌-◌, ◌<◌, ◌≤◌, inl, inr, Bool, true, false}
 use Rattle.best_fit.proofs.Common.{List, [], ◌∷◌, ◌++◌, arith, nat_lt, nat_le, IsTrue, Some, None, false≢true}
 use Rattle.best_fit.proofs.Common.{both_ways, cases_lt, cond-true, cond-false, le-ltb, lt-ltb, le-leb, leb-true}
-use Rattle.best_fit.proofs.Common.{filter_map-append, Role, Tile, first_in, free_tile, in_two, is_free, Extent}
-use Rattle.best_fit.proofs.Common.{handle, insert, others, share, as_extent, cut_to, free_len, with_free_behind}
-use Rattle.best_fit.proofs.Common.{gaps_of}
+use Rattle.best_fit.proofs.Common.{filter_map-append, Role, Tile, first_in, free_tile, in_two, is_free, Extent, handle}
+use Rattle.best_fit.proofs.Common.{insert, others, share, as_extent, cut_to, free_len, with_free_behind, gaps_of}
 use Rattle.best_fit.proofs.extents.Proper.{insert-here, insert-past, others-here, others-past}
 use Rattle.best_fit.proofs.tags.TileRows.{Row, Apart, Apart-weaker, unused, used, use_cases, unused-free, used-not_free}
 use Rattle.best_fit.proofs.tags.TileRows.{extents_of, extent_of, extents_of-free, extents_of-used, gaps_of-used}

@@ -2,10 +2,10 @@
 -- header.
 use Rattle.best_fit.proofs.Common.{◌≡◌, refl, sym, ap, subst, ◌∙◌, ℕ, ◌+◌, ◌-◌, ◌%◌, ◌<◌, ◌≤◌, ◌⊎◌, inl, inr, Bool}
 use Rattle.best_fit.proofs.Common.{List, [], ◌∷◌, ◌++◌, length, arith, Some, Option, AllByRecursion, Memory}
-use Rattle.best_fit.proofs.Common.{WindowState}
-use Rattle.best_fit.proofs.Common.{SameBytes, bytes_of, word_at, Role, Tile, current, SameBytes-word, AreTags, tag_word}
-use Rattle.best_fit.proofs.Common.{IsBesideTags, EncodesTiles, SameExceptTags, Extent, handle, end_of, KeepsBlocks}
-use Rattle.best_fit.proofs.Common.{SameBlock}
+use Rattle.best_fit.proofs.Common.{WindowState, SameBytes, bytes_of, word_at, Role, Tile, current, SameBytes-word}
+use Rattle.best_fit.proofs.Common.{AreTags, tag_word, IsBesideTags, EncodesTiles, SameExceptTags, Extent, handle}
+use Rattle.best_fit.proofs.Common.{end_of, KeepsBlocks, SameBlock, one_tile_at_an_offset, tile_in}
+use Rattle.best_fit.specs.Tiling.{ChangesTags}
 use Rattle.block_tags.specs.Tiles.{use_bits, red_bit}
 use Rattle.best_fit.proofs.tags.RowParts.{row_reaches}
 use Rattle.best_fit.proofs.tags.TagsAndLiveSet.{said_row, legal_size}
@@ -27,6 +27,33 @@ in_front t (u ∷ ts) us (inr h) = inr (in_front t ts us h)
 pub in_back : (t : Tile) (ts us : List Tile) → In t us → In t (ts ++ us)
 in_back t [] us h = h
 in_back t (u ∷ ts) us h = inr (in_back t ts us h)
+
+-- another tile of the list stays in it when one changes
+pub in_other : (u t t' : Tile) (front back : List Tile) → (t ≡ u → ⊥) → In u (front ++ (t ∷ back))
+    → In u (front ++ (t' ∷ back))
+in_other u t t' [] back n (inl e) = absurd (n e)
+in_other u t t' [] back n (inr h) = inr h
+in_other u t t' (f ∷ fs) back n (inl e) = inl e
+in_other u t t' (f ∷ fs) back n (inr h) = inr (in_other u t t' fs back n h)
+
+record Splits (t : Tile) (ts : List Tile) : Type 0 where
+  front : List Tile
+  back : List Tile
+  list : ts ≡ front ++ (t ∷ back)
+
+splits : (t : Tile) (ts : List Tile) → In t ts → Splits t ts
+splits t [] h = absurd h
+splits t (u ∷ us) (inl e) = record { front = []; back = us; list = ap (λ (v : Tile). v ∷ us) e }
+splits t (u ∷ us) (inr h) = let s = splits t us h in
+    record { front = u ∷ s.front; back = s.back; list = ap (λ (vs : List Tile). u ∷ vs) s.list }
+
+-- a tile of the list is found at its offset
+pub in_stands : (c : WindowState) (ts : List Tile) (t : Tile) → EncodesTiles c ts → In t ts
+    → tile_in ts t.offset ≡ Some t
+in_stands c ts t said h =
+    let s = splits t ts h in
+    ap (λ (us : List Tile). tile_in us t.offset) s.list ∙ one_tile_at_an_offset c s.front t s.back
+    (subst (EncodesTiles c) s.list said)
 
 -- a byte before a row lies in no tag of it
 pub low_beside : (at : ℕ) (ts : List Tile) (end k : ℕ) → Row at ts end → k < at → IsBesideTags ts k
@@ -92,8 +119,22 @@ pub record Stays (ts us : List Tile) (x : Extent) : Type 0 where
   pub within_old : x.len ≤ old.len
   pub within_new : x.len ≤ new.len
 
-module _ (old new : WindowState) (ts us : List Tile) (said : EncodesTiles old ts) (says : EncodesTiles new us)
-    (same : SameExceptTags old new ts us) where
+-- the tags change from one list to another
+pub record TagStep (old new : WindowState) (ts us : List Tile) : Type 0 where
+  pub said : EncodesTiles old ts
+  pub says : EncodesTiles new us
+  pub same : SameExceptTags old new ts us
+
+-- the step from a list that the tags encode
+pub tag_step : {old new : WindowState} {change : List Tile → List Tile} (ts us : List Tile) → EncodesTiles old ts
+    → change ts ≡ us → ChangesTags old new change → TagStep old new ts us
+tag_step {old} {new} ts us said e c = record {
+  said = said;
+  says = subst (EncodesTiles new) e (c.tags ts said);
+  same = subst (SameExceptTags old new ts) e (c.frame ts said);
+}
+
+module _ {old new : WindowState} {ts us : List Tile} (step : TagStep old new ts us) where
   abbrev m : Memory
   m = bytes_of old.bytes
 
@@ -101,10 +142,10 @@ module _ (old new : WindowState) (ts us : List Tile) (said : EncodesTiles old ts
   m' = bytes_of new.bytes
 
   old_row : Row 128 ts (length old.bytes - 16)
-  old_row = said_row old ts said
+  old_row = said_row old ts step.said
 
   new_row : Row 128 us (length old.bytes - 16)
-  new_row = subst (λ n. Row 128 us (n - 16)) same.size (said_row new us says)
+  new_row = subst (λ n. Row 128 us (n - 16)) step.same.size (said_row new us step.says)
 
   payload : (x : Extent) → Stays ts us x → SameBytes (bytes_of old.bytes) (bytes_of new.bytes) (handle x) (end_of x)
   payload x s =
@@ -113,15 +154,16 @@ module _ (old new : WindowState) (ts us : List Tile) (said : EncodesTiles old ts
         at = λ k low high.
             let i = inside 128 s.old ts (length old.bytes - 16) k old_row s.in_old (omega arith) (omega arith) in
             let j = inside 128 s.new us (length old.bytes - 16) k new_row s.in_new (omega arith) (omega arith) in
-            same.bytes k i.beside j.beside i.high;
+            step.same.bytes k i.beside j.beside i.high;
       }
 
   colour : (x : Extent) → Stays ts us x → word_at (bytes_of new.bytes) (x.offset + 8) % 16 ≡ word_at
       (bytes_of old.bytes) (x.offset + 8) % 16
   colour x s =
-      let i = tag_in current (bytes_of old.bytes) 128 0 ts (length old.bytes - 16) s.old said.tags old_row s.in_old in
-      let j = tag_in current (bytes_of new.bytes) 128 0 us (length new.bytes - 16) s.new says.tags
-      (said_row new us says) s.in_new in
+      let i = tag_in current (bytes_of old.bytes) 128 0 ts (length old.bytes - 16) s.old step.said.tags old_row
+      s.in_old in
+      let j = tag_in current (bytes_of new.bytes) 128 0 us (length new.bytes - 16) s.new step.says.tags
+      (said_row new us step.says) s.in_new in
       let before : word_at (bytes_of old.bytes) (x.offset + 8) ≡ tag_word s.old =
       ap (λ k. word_at (bytes_of old.bytes) (k + 8)) (sym s.at_old) ∙ i.word in
       let after : word_at (bytes_of new.bytes) (x.offset + 8) ≡ tag_word s.new =
@@ -144,9 +186,9 @@ module _ (old new : WindowState) (ts us : List Tile) (said : EncodesTiles old ts
   -- all below the first tile stays
   pub step_header : SameBytes (bytes_of old.bytes) (bytes_of new.bytes) 0 128
   step_header =
-      let n = legal_size (length old.bytes) said.size in let low = n.low in
+      let n = legal_size (length old.bytes) step.said.size in let low = n.low in
       record {
-        at = λ k a b. same.bytes k (low_beside 128 ts (length old.bytes - 16) k old_row b)
+        at = λ k a b. step.same.bytes k (low_beside 128 ts (length old.bytes - 16) k old_row b)
             (low_beside 128 us (length old.bytes - 16) k new_row b) (omega arith);
       }
 
@@ -159,7 +201,7 @@ module _ (old new : WindowState) (ts us : List Tile) (said : EncodesTiles old ts
   step_keeps xs all =
       let h = step_header in
       record {
-        place = same.place;
+        place = step.same.place;
         front = record { at = λ k a b. h.at k a (omega arith) };
         behind = record { at = λ k a b. h.at k (omega arith) b };
         blocks = step_blocks xs all;
@@ -222,11 +264,8 @@ around_stays front olds news back =
     (in_back t front (news ++ back) (in_back t news back i))))
 
 -- and so do the place and the header
-pub around_keeps : (old new : WindowState) (front olds news back : List Tile)
-    → EncodesTiles old (front ++ (olds ++ back))
-    → EncodesTiles new (front ++ (news ++ back))
-    → SameExceptTags old new (front ++ (olds ++ back)) (front ++ (news ++ back))
+pub around_keeps : {old new : WindowState} (front olds news back : List Tile)
+    → TagStep old new (front ++ (olds ++ back)) (front ++ (news ++ back))
     → KeepsBlocks old new (extents_of front ++ extents_of back)
-around_keeps old new front olds news back said says same =
-    step_keeps old new (front ++ (olds ++ back)) (front ++ (news ++ back)) said says same
-    (extents_of front ++ extents_of back) (around_stays front olds news back)
+around_keeps front olds news back step =
+    step_keeps step (extents_of front ++ extents_of back) (around_stays front olds news back)

@@ -1,32 +1,25 @@
 -- Bytes of the header or of a payload that change, and the block that a handle names.
-use Rattle.best_fit.proofs.Common.{◌≡◌, refl, sym, ap, subst, ◌∙◌, ℕ, ◌+◌, ◌-◌, ◌%◌, ◌^◌, ◌<◌, ◌≤◌, ◌⊎◌, inl, inr}
-use Rattle.best_fit.proofs.Common.{Bool, true, ◌&&◌, List, [], ◌∷◌, ◌++◌, length, arith, ◌==◌, IsTrue, ◌≢◌, Option}
-use Rattle.best_fit.proofs.Common.{Some, None, find, option_map, list_any, false≢true, and_parts, or_cases, cases_lt}
+use Rattle.best_fit.proofs.Common.{◌≡◌, refl, sym, ap, subst, ◌∙◌, ℕ, ◌+◌, ◌-◌, ◌%◌, ◌^◌, ◌<◌, ◌≤◌, ◌⊎◌, inl, inr, Bool}
+use Rattle.best_fit.proofs.Common.{true, ◌&&◌, List, [], ◌∷◌, ◌++◌, length, arith, ◌==◌, IsTrue, ◌≢◌, Option, Some}
+use Rattle.best_fit.proofs.Common.{None, find, option_map, list_any, false≢true, and_parts, or_cases, cases_lt}
 use Rattle.best_fit.proofs.Common.{eqb-true, leb-true, eq-eqb, ne_eqb, cond-true, cond-false, same_Some, none-some}
 use Rattle.best_fit.proofs.Common.{WindowState, HasBytesAt, SameBytesExcept, SameSurroundings, bytes_of, part, patched}
-use Rattle.best_fit.proofs.Common.{word_at, with_bytes}
-use Rattle.best_fit.proofs.Common.{length-patched, patched-HasBytesAt, patched-SameBytesExcept}
-use Rattle.best_fit.proofs.Common.{with_bytes-SameSurroundings}
-use Rattle.best_fit.proofs.Common.{word_written-SameBytesExcept, Role, Object, Index, Storage, Node, Tile, current}
-use Rattle.best_fit.proofs.Common.{tile_in}
-use Rattle.best_fit.proofs.Common.{EncodesTiles, HasTileAt, header_may_change, one_tile_at_an_offset}
-use Rattle.best_fit.proofs.Common.{payload_may_change}
-use Rattle.best_fit.proofs.Common.{tiles_are_read_off, Extent, Gap, LiveSet, gaps, handle, holds, ChangesBytes, IsHeap}
-use Rattle.best_fit.proofs.Common.{EncodesLiveSet, extent_at, has_room, is_live_in, is_node_in, live_of, payload_at}
-use Rattle.best_fit.proofs.Common.{IsTree}
-use Rattle.best_fit.proofs.Common.{is_in, tree_same, link_at, SameBytesExcept-link, IsFreeTree, cells_of, payloads}
-use Rattle.best_fit.proofs.Common.{tiles_in}
+use Rattle.best_fit.proofs.Common.{word_at, with_bytes, length-patched, patched-HasBytesAt, patched-SameBytesExcept}
+use Rattle.best_fit.proofs.Common.{with_bytes-SameSurroundings, word_written-SameBytesExcept, Role, Object, Index}
+use Rattle.best_fit.proofs.Common.{Storage, Node, Tile, current, tile_in, EncodesTiles, HasTileAt, header_may_change}
+use Rattle.best_fit.proofs.Common.{one_tile_at_an_offset, payload_may_change, tiles_are_read_off, Extent, Gap, LiveSet}
+use Rattle.best_fit.proofs.Common.{gaps, handle, holds, ChangesBytes, IsHeap, EncodesLiveSet, extent_at, has_room}
+use Rattle.best_fit.proofs.Common.{is_live_in, is_node_in, live_of, payload_at, is_in, link_at, SameBytesExcept-link}
+use Rattle.best_fit.proofs.Common.{IsFreeTree, cells_of, payloads, tiles_in}
 use Rattle.raw_region.specs.Memory.{word_bytes}
 use Rattle.raw_region.proofs.Laws.{length-word_written, word-own}
 use Rattle.best_fit.specs.Heap.{is_node_role}
 use Rattle.best_fit.proofs.tags.RowParts.{row_reaches, row_front, row_back, row_end}
 use Rattle.best_fit.proofs.tags.TagsAndLiveSet.{SaysHeap, heap-gaps, heap-says, says-EncodesLiveSet, says-live}
-use Rattle.best_fit.proofs.tags.TagsAndLiveSet.{said_row}
-use Rattle.best_fit.proofs.tags.TagsAndLiveSet.{live_in}
-use Rattle.best_fit.proofs.tags.TagsAndLiveSet.{legal_size}
+use Rattle.best_fit.proofs.tags.TagsAndLiveSet.{said_row, live_in, legal_size}
 use Rattle.best_fit.proofs.tags.OneLiveSet.{lay_out_one}
 use Rattle.best_fit.proofs.gaps.Nodes.{Disjoint, NodeAt, in_around, node_from, row_disjoint}
-use Rattle.best_fit.proofs.gaps.Order.{in_sorted}
+use Rattle.best_fit.proofs.gaps.Order.{gap_tree_stays}
 use Rattle.best_fit.proofs.gaps.Setters.{beside_cell}
 use Rattle.best_fit.proofs.tags.TileJoins.{row_before}
 use Rattle.best_fit.proofs.tags.UnchangedTags.{In}
@@ -231,19 +224,9 @@ pub free_stays : (c d : WindowState) → IsHeap current c.bytes
 unfolding current
 free_stays c d heap root cells =
     let s = heap-says c heap in
-    let old = heap.free in
-    record {
-      tree = old.tree;
-      linked = subst (λ (o : Option ℕ). IsTree (cells_of (bytes_of d.bytes)) o old.tree) (sym root)
-          (tree_same (cells_of (bytes_of c.bytes)) (cells_of (bytes_of d.bytes))
-          (link_at (bytes_of c.bytes) 24) old.tree (λ m i.
-          cells m (node_from c m s.said s.apart (
-          ap (λ (gs : List Gap). is_in m (payloads gs)) (sym (heap-gaps c heap))
-          ∙ sym (in_sorted m (gaps (live_of c.bytes))) ∙ ap (λ (ns : List ℕ). is_in m ns) (sym old.lists) ∙ i)))
-          old.linked);
-      red_black = old.red_black;
-      lists = old.lists;
-    }
+    gap_tree_stays (bytes_of c.bytes) (bytes_of d.bytes) (gaps (live_of c.bytes)) root (λ m i. cells m
+    (node_from c m s.said s.apart (ap (λ (gs : List Gap). is_in m (payloads gs)) (sym (heap-gaps c heap)) ∙ i)))
+    heap.free
 
 -- the live set stays where the tags and the free tree do
 pub same_live : (c d : WindowState) → IsHeap current c.bytes → EncodesTiles d (tiles_in c)

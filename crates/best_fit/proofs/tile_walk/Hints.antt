@@ -1,14 +1,12 @@
 -- Block hints are handles of blocks in use, and a walk can begin at one.
-use Rattle.best_fit.proofs.Common.{◌≡◌, ◌≢◌, refl, sym, ap, subst, ◌∙◌, ℕ, ◌+◌, ◌-◌, ◌<◌, ◌≤◌, ◌⊎◌, inl}
-use Rattle.best_fit.proofs.Common.{inr, Bool, true, false, ◌||◌, List, [], ◌∷◌, ◌++◌, length, append_assoc}
-use Rattle.best_fit.proofs.Common.{arith, ◌==◌, IsTrue, Option, Some, None, is_some, IfSome, list_any}
-use Rattle.best_fit.proofs.Common.{both_ways, cases_eq, eq-eqb, ne_eqb, or_left, or_right, WindowState, Role, Tile}
-use Rattle.best_fit.proofs.Common.{current}
-use Rattle.best_fit.proofs.Common.{next_in, tile_in, EncodesTiles, next_stands_behind, tiles_are_read_off, BlockHints}
-use Rattle.best_fit.proofs.Common.{Extent, LiveSet, handle, added, longer, others, released, resized, shorter}
-use Rattle.best_fit.proofs.Common.{AllocatesOk, TryExtends, IsHeap, Deallocates, ShrinksInPlace, EncodesLiveSet}
-use Rattle.best_fit.proofs.Common.{is_live_in}
-use Rattle.best_fit.proofs.Common.{live_of, IsHintedHeap, IsHinted, LeadToBlocks}
+use Rattle.best_fit.proofs.Common.{◌≡◌, ◌≢◌, refl, sym, ap, subst, ◌∙◌, ℕ, ◌+◌, ◌-◌, ◌<◌, ◌≤◌, ◌⊎◌, inl, inr, Bool}
+use Rattle.best_fit.proofs.Common.{true, false, ◌||◌, List, [], ◌∷◌, ◌++◌, length, append_assoc, arith, ◌==◌, IsTrue}
+use Rattle.best_fit.proofs.Common.{Option, Some, None, is_some, IfSome, list_any, both_ways, cases_eq, eq-eqb, ne_eqb}
+use Rattle.best_fit.proofs.Common.{or_left, or_right, WindowState, Role, Tile, current, next_in, tile_in, EncodesTiles}
+use Rattle.best_fit.proofs.Common.{next_stands_behind, tiles_are_read_off, BlockHints, Extent, LiveSet, handle, added}
+use Rattle.best_fit.proofs.Common.{longer, others, released, resized, shorter, AllocatesOk, TryExtends, IsHeap}
+use Rattle.best_fit.proofs.Common.{Deallocates, ShrinksInPlace, EncodesLiveSet, is_live_in, live_of, IsHintedHeap}
+use Rattle.best_fit.proofs.Common.{IsHinted, LeadToBlocks}
 use Rattle.best_fit.specs.BlockHints.{AreNone}
 use Rattle.best_fit.proofs.allocation.NewBlock.{allocated-is_live}
 use Rattle.best_fit.proofs.tags.RowParts.{row_back}

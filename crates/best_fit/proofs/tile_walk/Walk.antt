@@ -1,11 +1,10 @@
 -- A walk over the tiles of a window, from its header to its end tag.
-use Rattle.best_fit.proofs.Common.{◌≡◌, refl, sym, ap, subst, ◌∙◌, ℕ, zero, suc, ◌+◌, ◌-◌, ◌<◌, ◌≤◌, Bool, true}
-use Rattle.best_fit.proofs.Common.{false, ◌||◌, List, [], ◌∷◌, ◌++◌, length, append_assoc, zero-add, arith, ◌==◌}
-use Rattle.best_fit.proofs.Common.{Option, Some, None, is_some, option_map, slice_get, same_Some, none-some, list_any}
-use Rattle.best_fit.proofs.Common.{both_ways, ne_eqb, WindowState, Tile, current, first_in, next_in, EncodesTiles}
-use Rattle.best_fit.proofs.Common.{HasTileAt}
-use Rattle.best_fit.proofs.Common.{next_stands_behind, one_tile_at_an_offset, Extent, handle, span, IsHeap}
-use Rattle.best_fit.proofs.Common.{is_live_in, live_of, tiles_in}
+use Rattle.best_fit.proofs.Common.{◌≡◌, refl, sym, ap, subst, ◌∙◌, ℕ, zero, suc, ◌+◌, ◌-◌, ◌<◌, ◌≤◌, Bool, true, false}
+use Rattle.best_fit.proofs.Common.{◌||◌, List, [], ◌∷◌, ◌++◌, length, append_assoc, zero-add, arith, ◌==◌, Option, Some}
+use Rattle.best_fit.proofs.Common.{None, is_some, option_map, slice_get, same_Some, none-some, list_any, both_ways}
+use Rattle.best_fit.proofs.Common.{ne_eqb, WindowState, Tile, current, first_in, next_in, EncodesTiles, HasTileAt}
+use Rattle.best_fit.proofs.Common.{next_stands_behind, one_tile_at_an_offset, Extent, handle, span, IsHeap, is_live_in}
+use Rattle.best_fit.proofs.Common.{live_of, tiles_in}
 use Rattle.std.proofs.lemmas.Option.{slice_get-map}
 use Rattle.block_tags.specs.Windows.{IsTiledWindow}
 use Rattle.best_fit.specs.Extents.{spans}

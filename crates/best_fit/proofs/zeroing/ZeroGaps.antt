@@ -1,23 +1,24 @@
 -- The free bytes of gaps made zero, one gap after the other.
-use Rattle.best_fit.proofs.Common.{◌≡◌, refl, sym, ap, subst, ◌∙◌, ℕ, ◌+◌, ◌-◌, ◌/◌, ◌%◌, ◌<◌, ◌≤◌, ◌⊎◌, inl, inr}
-use Rattle.best_fit.proofs.Common.{true, false, List, [], ◌∷◌, ◌++◌, length, append_assoc, arith, ◌==◌, Some}
-use Rattle.best_fit.proofs.Common.{None, is_some, replicate, AllByRecursion, append-nil, none-some, Memory}
-use Rattle.best_fit.proofs.Common.{WindowState, SameBytesExcept, SameSurroundings, bytes_of, patched, word_at}
-use Rattle.best_fit.proofs.Common.{with_bytes, length-patched}
-use Rattle.best_fit.proofs.Common.{SameBytes-word, Role, Tile, current, EncodesTiles}
+use Rattle.best_fit.proofs.Common.{◌≡◌, refl, sym, ap, subst, ◌∙◌, ℕ, ◌+◌, ◌-◌, ◌/◌, ◌%◌, ◌<◌, ◌≤◌, ◌⊎◌, inl, inr, true}
+use Rattle.best_fit.proofs.Common.{false, List, [], ◌∷◌, ◌++◌, length, append_assoc, arith, ◌==◌, Some, None, is_some}
+use Rattle.best_fit.proofs.Common.{replicate, AllByRecursion, append-nil, none-some, Memory, WindowState}
+use Rattle.best_fit.proofs.Common.{SameBytesExcept, SameSurroundings, bytes_of, patched, word_at, with_bytes}
+use Rattle.best_fit.proofs.Common.{length-patched, SameBytes-word, Role, Tile, current, EncodesTiles}
 use Rattle.best_fit.proofs.Common.{one_tile_at_an_offset, payload_may_change, target_of, Gap, cells_of, IsHeap}
 use Rattle.best_fit.proofs.Common.{ZeroesFree, SameBlock, gap_of, gaps_of, tiles_in}
 use Rattle.std.proofs.lemmas.List.{length-replicate}
 use Rattle.raw_region.specs.Memory.{AreZero}
 use Rattle.raw_region.proofs.Laws.{filled-AreZero, filled-SameBytesExcept}
 use Rattle.best_fit.specs.Heap.{IsBesideFree}
-use Rattle.best_fit.proofs.tags.RowParts.{row_back, row_end, row_front, row_reaches}
+use Rattle.best_fit.proofs.tags.RowParts.{row_back, row_end, row_front}
 use Rattle.best_fit.proofs.gaps.Nodes.{Disjoint, NodeAt, row_disjoint, row_lies}
 use Rattle.best_fit.proofs.gaps.Setters.{cell_stays}
 use Rattle.best_fit.proofs.tags.TagsAndLiveSet.{heap-gaps, heap-says, legal_size, said_row}
 use Rattle.best_fit.proofs.tags.TileRows.{Row, unused, used, use_cases, extent_of, gaps_of-free, gaps_of-used}
 use Rattle.best_fit.proofs.tags.UnchangedTags.{all_joined, In, all_used}
-use Rattle.best_fit.proofs.free_tree.WalkTurns.{Ended, Passed, free_if, gaps_past_block, gaps_past_gap, passed_in}
+use Rattle.best_fit.proofs.free_tree.WalkTurns.{gaps_kept, Ended, Passed, free_if, gaps_past_block, gaps_past_gap}
+use Rattle.best_fit.proofs.free_tree.WalkTurns.{passed_in}
+use Rattle.best_fit.proofs.free_tree.WalkTurns.{passes}
 use Rattle.best_fit.proofs.tile_walk.Walk.{Turn, live_extents}
 use Rattle.best_fit.proofs.tags.Writes.{free_stays, same_live}
 
@@ -55,43 +56,20 @@ pub zeroing_used : (old new next : WindowState) (tile : Tile) → Turn new (Zero
 zeroing_used old new next tile t some e =
     let z = t.holds in
     let gaps = gaps_past_block t.passed tile some in
-    passed_in (λ (c : WindowState). Zeroed old c) tile.offset new next e (record {
-      passed = t.passed;
-      tile = tile;
-      back = t.back;
-      said = t.said;
-      offset = refl;
-      holds = record {
-        list = z.list ∙ sym (append_assoc t.passed (tile ∷ []) t.back);
-        size = z.size;
-        place = z.place;
-        same = λ k h. z.same k (subst (AllByRecursion (IsBesideFree current k)) gaps h);
-        zero = subst (AllByRecursion (IsZero (bytes_of new.bytes))) (sym gaps) z.zero;
-      };
-    })
+    passed_in (λ (c : WindowState). Zeroed old c) tile.offset new next e
+    (passes new (Zeroed old new) t.passed tile t.back t.said (record {
+      list = z.list ∙ sym (append_assoc t.passed (tile ∷ []) t.back);
+      size = z.size;
+      place = z.place;
+      same = λ k h. z.same k (subst (AllByRecursion (IsBesideFree current k)) gaps h);
+      zero = subst (AllByRecursion (IsZero (bytes_of new.bytes))) (sym gaps) z.zero;
+    }))
 
 -- bytes before the bytes that change stay zero
 zero_kept : (m m' : Memory) (at : ℕ) (ts : List Tile) (end from n : ℕ) → Row at ts end → end ≤ from
     → SameBytesExcept m m' from n → AllByRecursion (IsZero m) (gaps_of ts) → AllByRecursion (IsZero m') (gaps_of ts)
-zero_kept m m' at [] end from n r l same zero = tt
-zero_kept m m' at (t ∷ ts) end from n r l same zero =
-    let o = r.0 in let on = row_reaches (at + t.len) ts end r.3 in
-    elim (use_cases t) [
-      | used role e ↦
-          subst (AllByRecursion (IsZero m')) (sym (gaps_of-used t ts role e))
-          (zero_kept m m' (at + t.len) ts end from n r.3 l same
-          (subst (AllByRecursion (IsZero m)) (gaps_of-used t ts role e) zero))
-      | unused e ↦
-          let all : AllByRecursion (IsZero m) (gap_of t ∷ gaps_of ts) = subst (AllByRecursion (IsZero m))
-          (gaps_of-free t ts e) zero in
-          let here = all.0 in
-          let both : AllByRecursion (IsZero m') (gap_of t ∷ gaps_of ts) = (
-            record { at = λ k a b. same.at k (inl (omega arith)) ∙ here.at k a b },
-            zero_kept m m' (at + t.len) ts end
-                from n r.3 l same all.1,
-          ) in
-          subst (AllByRecursion (IsZero m')) (sym (gaps_of-free t ts e)) both
-    ]
+zero_kept m m' at ts end from n r l same = gaps_kept (IsZero m) (IsZero m') at ts end r (λ t long high z.
+    record { at = λ k a b. same.at k (inl (omega arith)) ∙ z.at k a b })
 
 -- a gap is made zero and passed
 pub zeroing_free : (old new next : WindowState) (tile : Tile) (t : Turn new (Zeroed old new) tile)
@@ -121,23 +99,17 @@ zeroing_free old new next tile t none e =
     (zero_kept (bytes_of new.bytes) (bytes_of out.bytes) 128 t.passed (row_end 128 t.passed) (at + 32) n front
     (omega arith) only z.zero) here in
     let gaps = gaps_past_gap t.passed tile (free_if tile none) in
-    passed_in (λ (c : WindowState). Zeroed old c) tile.offset out next e (record {
-      passed = t.passed;
-      tile = tile;
-      back = t.back;
-      said = says;
-      offset = refl;
-      holds = record {
-        list = z.list ∙ sym (append_assoc t.passed (tile ∷ []) t.back);
-        size = size ∙ z.size;
-        place = record { before = z.place.before; after = z.place.after };
-        same = λ k h.
-            (let two = all_split (IsBesideFree current k) (gaps_of t.passed) (gap_of tile ∷ [])
-            (subst (AllByRecursion (IsBesideFree current k)) gaps h) in
-            only.at k (away k two.1.0) ∙ z.same k two.0);
-        zero = subst (AllByRecursion (IsZero (bytes_of out.bytes))) (sym gaps) zeros;
-      };
-    })
+    passed_in (λ (c : WindowState). Zeroed old c) tile.offset out next e
+    (passes out (Zeroed old out) t.passed tile t.back says (record {
+      list = z.list ∙ sym (append_assoc t.passed (tile ∷ []) t.back);
+      size = size ∙ z.size;
+      place = record { before = z.place.before; after = z.place.after };
+      same = λ k h.
+          (let two = all_split (IsBesideFree current k) (gaps_of t.passed) (gap_of tile ∷ [])
+          (subst (AllByRecursion (IsBesideFree current k)) gaps h) in
+          only.at k (away k two.1.0) ∙ z.same k two.0);
+      zero = subst (AllByRecursion (IsZero (bytes_of out.bytes))) (sym gaps) zeros;
+    }))
   where
     away : (k : ℕ) → IsBesideFree current k (gap_of tile)
         → (k < tile.offset + 32) ⊎ (tile.offset + 32 + (tile.len - 32) ≤ k)

@@ -1,7 +1,7 @@
 //! Builds the tree of gaps over a window with good tags.
 ghost use Rattle.std.specs.Prelude.{◌≡◌, ◌+◌, ◌%◌, ◌≤◌, IsTrue, List, [], ◌∷◌, ◌++◌, length, None};
 ghost use Rattle.raw_region.specs.Format.{current};
-ghost use Rattle.raw_region.specs.Memory.{AreBytes, SameBytesExcept, SameSurroundings, bytes_of};
+ghost use Rattle.raw_region.specs.Memory.{SameBytesExcept, SameSurroundings, bytes_of};
 ghost use Rattle.block_tags.specs.Format.{is_legal_size};
 ghost use Rattle.block_tags.specs.Tiles.{has_tags};
 ghost use Rattle.offset_link.specs.Link.{link_at};
@@ -27,10 +27,10 @@ impl Heap {
         ensures { RebuildsFreeTree current window result }
     {
         let mut gaps = GapTree { window };
-        hold_window(&gaps.window);
+        bytes_are_octets(gaps.window.bytes(0, gaps.window.size()));
         clear_gaps(&mut gaps.window);
         plant_gaps(&mut gaps);
-        hold_window(&gaps.window);
+        bytes_are_octets(gaps.window.bytes(0, gaps.window.size()));
         let GapTree { window } = gaps;
         Heap::adopt_without_hints(window)
     }
@@ -93,11 +93,4 @@ fn plant(gaps: &mut GapTree, node: u64)
     let root = load(&gaps.window, FREE_TREE_ROOT);
     let changed = insert(gaps, root, node);
     set_link(&mut gaps.window, FREE_TREE_ROOT, changed.root);
-}
-
-/// States that each byte of a window is below 256. It does nothing.
-fn hold_window(window: &Window)
-    ensures { AreBytes window.now.bytes }
-{
-    bytes_are_octets(window.bytes(0, window.size()));
 }

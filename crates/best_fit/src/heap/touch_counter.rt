@@ -1,13 +1,12 @@
 //! Access of a heap's calls to its tiles and to the tree of its gaps. It counts each touch.
-ghost use Rattle.std.specs.Prelude.{◌≡◌, ℕ, ◌+◌, ◌*◌, ◌%◌, ◌^◌, ◌<◌, ◌≤◌, true, ◌-◌, Option, Some, None, IfSome, List};
+ghost use Rattle.std.specs.Prelude.{◌≡◌, ◌+◌, ◌*◌, ◌^◌, ◌<◌, ◌≤◌, true, Some, None, IfSome, List};
 ghost use Rattle.std.specs.Prelude.{◌∷◌, ◌++◌, length, filter, is_some, option_map, false};
 ghost use Rattle.raw_region.specs.Memory.{cut_at, whole};
-ghost use Rattle.block_tags.specs.declared.tile.Role.{Role as ARole};
 ghost use Rattle.block_tags.specs.declared.tile.Tile.{Tile as ATile};
-ghost use Rattle.block_tags.specs.Lists.{joined_at, last_in, next_in, previous_in, split_at, tile_in, with_free};
-ghost use Rattle.block_tags.specs.Lists.{with_red_at, with_use_at, without_last};
-ghost use Rattle.block_tags.specs.Windows.{CanAppend, CanSplit, PrefixSaysTiles, HasFreeLast, HasFreeNext, HasTileAt};
-ghost use Rattle.block_tags.specs.Windows.{IsTiledWindow, CanTakeUse, MayHaveColour, SameExceptTags, EncodesTiles};
+ghost use Rattle.block_tags.specs.Lists.{joined_at, last_in, next_in, previous_in, split_at, tile_in};
+ghost use Rattle.block_tags.specs.Lists.{with_red_at, with_use_at};
+ghost use Rattle.block_tags.specs.Windows.{CanAppend, CanSplit, HasFreeLast, HasFreeNext, HasTileAt};
+ghost use Rattle.block_tags.specs.Windows.{IsTiledWindow, CanTakeUse, MayHaveColour, EncodesTiles};
 ghost use Rattle.link_tree.specs.Tree.{bits};
 ghost use Rattle.link_tree.specs.Nodes.{first_not_before, is_in};
 ghost use Rattle.link_tree.specs.Searching.{path_length};
@@ -17,6 +16,8 @@ ghost use Rattle.best_fit.specs.FreeTree.{payloads, sorted_gaps};
 ghost use Rattle.best_fit.specs.GapNodes.{gaps_in, is_gap_node, kept_of, own_probe, stands_before};
 ghost use Rattle.best_fit.specs.GapTrees.{HasGapTree, LacksGap, CanBeginRemoval, ChangesGapTree, is_long, node_of};
 ghost use Rattle.best_fit.specs.GapTrees.{root_of_gaps};
+ghost use Rattle.best_fit.specs.Touches.{ReadsOnce, TouchesMore, TouchesTimes, TouchesSome};
+ghost use Rattle.best_fit.specs.Tiling.{AppendsFree, ChangesTags, DropsLast};
 
 use crate::heap::nodes::{FREE_TREE_ROOT, GapProbe, GapTree, RIGHT_LINK, set_link};
 use block_tags::{Role, TAG_LEN, Tile};
@@ -58,11 +59,10 @@ impl<'a> TouchCounter<'a> {
             → HasGapTree self.old.gaps.now.window (xs ++ g ∷ ys) → HasGapTree self.new.gaps.now.window (xs ++ ys) }
         ensures frame { ChangesGapTree self.old.gaps.now.window self.new.gaps.now.window }
         ensures unchanged { result ≡ None → self.new.gaps.now ≡ self.old.gaps.now }
-        ensures steps_lower { self.old.count ≤ self.new.count }
+        ensures steps_lower { TouchesMore self.old self.new }
         ensures progress { is_some result ≡ true → self.old.count < self.new.count }
         ensures steps { (hs : List Gap) → HasGapTree self.old.gaps.now.window hs
             → self.new.count ≤ self.old.count + 32 * bits (length hs + 1) + 32 }
-        ensures same_borrow { self.new.gaps.ghost_name ≡ self.old.gaps.ghost_name }
     {
         let root = load(&self.gaps.window, FREE_TREE_ROOT);
         let sought = GapProbe {
@@ -84,10 +84,9 @@ impl<'a> TouchCounter<'a> {
         ensures tree { (xs : List Gap) (g : Gap) (ys : List Gap) → node ≡ node_of g
             → HasGapTree self.old.gaps.now.window (xs ++ g ∷ ys) → HasGapTree self.new.gaps.now.window (xs ++ ys) }
         ensures frame { ChangesGapTree self.old.gaps.now.window self.new.gaps.now.window }
-        ensures steps_lower { self.old.count < self.new.count }
+        ensures steps_lower { TouchesSome self.old self.new }
         ensures steps { (hs : List Gap) → HasGapTree self.old.gaps.now.window hs
             → self.new.count ≤ self.old.count + 32 * bits (length hs + 1) + 33 }
-        ensures same_borrow { self.new.gaps.ghost_name ≡ self.old.gaps.ghost_name }
     {
         let root = load(&self.gaps.window, FREE_TREE_ROOT);
         // The gap is the root, as the only gap is, so no search is needed.
@@ -107,10 +106,9 @@ impl<'a> TouchCounter<'a> {
         ensures tree { (xs : List Gap) (g : Gap) (ys : List Gap) → node ≡ node_of g
             → HasGapTree self.old.gaps.now.window (xs ++ g ∷ ys) → HasGapTree self.new.gaps.now.window (xs ++ ys) }
         ensures frame { ChangesGapTree self.old.gaps.now.window self.new.gaps.now.window }
-        ensures steps_lower { self.old.count < self.new.count }
+        ensures steps_lower { TouchesSome self.old self.new }
         ensures steps { (hs : List Gap) → HasGapTree self.old.gaps.now.window hs
             → self.new.count ≤ self.old.count + 32 * bits (length hs + 1) + 33 }
-        ensures same_borrow { self.new.gaps.ghost_name ≡ self.old.gaps.ghost_name }
     {
         let sought = probe_of(&*self.gaps, node);
         let way = way_to(&*self.gaps, root, &sought);
@@ -129,10 +127,9 @@ impl<'a> TouchCounter<'a> {
         ensures tree { (xs : List Gap) (g : Gap) (ys : List Gap) → node ≡ node_of g
             → HasGapTree self.old.gaps.now.window (xs ++ g ∷ ys) → HasGapTree self.new.gaps.now.window (xs ++ ys) }
         ensures frame { ChangesGapTree self.old.gaps.now.window self.new.gaps.now.window }
-        ensures steps_lower { self.old.count < self.new.count }
+        ensures steps_lower { TouchesSome self.old self.new }
         ensures steps { (hs : List Gap) → HasGapTree self.old.gaps.now.window hs
             → self.new.count ≤ self.old.count + 30 * bits (length hs + 1) + 32 }
-        ensures same_borrow { self.new.gaps.ghost_name ≡ self.old.gaps.ghost_name }
     {
         let changed = remove_at(self.gaps, root, exit, node);
         self.count += changed.steps;
@@ -147,11 +144,10 @@ impl<'a> TouchCounter<'a> {
         ensures tree { (xs : List Gap) (g : Gap) (ys : List Gap) → node ≡ node_of g
             → LacksGap self.old.gaps.now.window xs g ys → HasGapTree self.new.gaps.now.window (xs ++ g ∷ ys) }
         ensures frame { ChangesGapTree self.old.gaps.now.window self.new.gaps.now.window }
-        ensures steps_lower { self.old.count < self.new.count }
+        ensures steps_lower { TouchesSome self.old self.new }
         ensures steps { (xs : List Gap) (g : Gap) (ys : List Gap) → node ≡ node_of g
             → LacksGap self.old.gaps.now.window xs g ys
             → self.new.count ≤ self.old.count + 32 * bits (length (xs ++ ys) + 1) + 33 }
-        ensures same_borrow { self.new.gaps.ghost_name ≡ self.old.gaps.ghost_name }
     {
         self.count += 1;
         clear_links(self.gaps, node);
@@ -166,9 +162,7 @@ impl<'a> TouchCounter<'a> {
         requires tile { HasTileAt self.old.gaps.now.window at }
         requires no_overflow { self.old.count + 1 < 2 ^ 64 }
         ensures tile { (ts : List ATile) → EncodesTiles self.old.gaps.now.window ts → tile_in ts at ≡ Some result }
-        ensures gaps { self.new.gaps.now ≡ self.old.gaps.now }
-        ensures steps_exact { self.new.count ≡ self.old.count + 1 }
-        ensures same_borrow { self.new.gaps.ghost_name ≡ self.old.gaps.ghost_name }
+        ensures steps_exact { ReadsOnce self.old self.new }
     {
         self.count += 1;
         block_tags::tile_at(&self.gaps.window, at)
@@ -178,12 +172,8 @@ impl<'a> TouchCounter<'a> {
     pub fn split(&mut self, at: u64, len: u64)
         requires tile { CanSplit self.old.gaps.now.window at len }
         requires no_overflow { self.old.count + 1 < 2 ^ 64 }
-        ensures tags { (ts : List ATile) → EncodesTiles self.old.gaps.now.window ts
-            → EncodesTiles self.new.gaps.now.window (split_at at len ts) }
-        ensures frame { (ts : List ATile) → EncodesTiles self.old.gaps.now.window ts
-            → SameExceptTags self.old.gaps.now.window self.new.gaps.now.window ts (split_at at len ts) }
-        ensures steps_exact { self.new.count ≡ self.old.count + 1 }
-        ensures same_borrow { self.new.gaps.ghost_name ≡ self.old.gaps.ghost_name }
+        ensures tags { ChangesTags self.old.gaps.now.window self.new.gaps.now.window (split_at at len) }
+        ensures steps_exact { TouchesTimes self.old self.new 1 }
     {
         self.count += 1;
         block_tags::split(&mut self.gaps.window, at, len);
@@ -194,9 +184,7 @@ impl<'a> TouchCounter<'a> {
         requires tile { HasTileAt self.old.gaps.now.window at }
         requires no_overflow { self.old.count + 1 < 2 ^ 64 }
         ensures tile { (ts : List ATile) → EncodesTiles self.old.gaps.now.window ts → result ≡ next_in ts at }
-        ensures gaps { self.new.gaps.now ≡ self.old.gaps.now }
-        ensures steps_exact { self.new.count ≡ self.old.count + 1 }
-        ensures same_borrow { self.new.gaps.ghost_name ≡ self.old.gaps.ghost_name }
+        ensures steps_exact { ReadsOnce self.old self.new }
     {
         self.count += 1;
         block_tags::next(&self.gaps.window, at)
@@ -207,9 +195,7 @@ impl<'a> TouchCounter<'a> {
         requires tile { HasTileAt self.old.gaps.now.window at }
         requires no_overflow { self.old.count + 1 < 2 ^ 64 }
         ensures tile { (ts : List ATile) → EncodesTiles self.old.gaps.now.window ts → result ≡ previous_in ts at }
-        ensures gaps { self.new.gaps.now ≡ self.old.gaps.now }
-        ensures steps_exact { self.new.count ≡ self.old.count + 1 }
-        ensures same_borrow { self.new.gaps.ghost_name ≡ self.old.gaps.ghost_name }
+        ensures steps_exact { ReadsOnce self.old self.new }
     {
         self.count += 1;
         block_tags::previous(&self.gaps.window, at)
@@ -219,12 +205,8 @@ impl<'a> TouchCounter<'a> {
     pub fn merge_next(&mut self, at: u64)
         requires tile { HasFreeNext self.old.gaps.now.window at }
         requires no_overflow { self.old.count + 1 < 2 ^ 64 }
-        ensures tags { (ts : List ATile) → EncodesTiles self.old.gaps.now.window ts
-            → EncodesTiles self.new.gaps.now.window (joined_at at ts) }
-        ensures frame { (ts : List ATile) → EncodesTiles self.old.gaps.now.window ts
-            → SameExceptTags self.old.gaps.now.window self.new.gaps.now.window ts (joined_at at ts) }
-        ensures steps_exact { self.new.count ≡ self.old.count + 1 }
-        ensures same_borrow { self.new.gaps.ghost_name ≡ self.old.gaps.ghost_name }
+        ensures tags { ChangesTags self.old.gaps.now.window self.new.gaps.now.window (joined_at at) }
+        ensures steps_exact { TouchesTimes self.old self.new 1 }
     {
         self.count += 1;
         block_tags::merge_next(&mut self.gaps.window, at);
@@ -234,12 +216,8 @@ impl<'a> TouchCounter<'a> {
     pub fn set_use(&mut self, at: u64, use_of: Option<Role>)
         requires tile { CanTakeUse self.old.gaps.now.window at use_of }
         requires no_overflow { self.old.count + 1 < 2 ^ 64 }
-        ensures tags { (ts : List ATile) → EncodesTiles self.old.gaps.now.window ts
-            → EncodesTiles self.new.gaps.now.window (with_use_at at use_of ts) }
-        ensures frame { (ts : List ATile) → EncodesTiles self.old.gaps.now.window ts
-            → SameExceptTags self.old.gaps.now.window self.new.gaps.now.window ts (with_use_at at use_of ts) }
-        ensures steps_exact { self.new.count ≡ self.old.count + 1 }
-        ensures same_borrow { self.new.gaps.ghost_name ≡ self.old.gaps.ghost_name }
+        ensures tags { ChangesTags self.old.gaps.now.window self.new.gaps.now.window (with_use_at at use_of) }
+        ensures steps_exact { TouchesTimes self.old self.new 1 }
     {
         self.count += 1;
         block_tags::set_use(&mut self.gaps.window, at, use_of);
@@ -249,12 +227,8 @@ impl<'a> TouchCounter<'a> {
     pub fn blacken(&mut self, at: u64)
         requires tile { MayHaveColour self.old.gaps.now.window at false }
         requires no_overflow { self.old.count + 1 < 2 ^ 64 }
-        ensures tags { (ts : List ATile) → EncodesTiles self.old.gaps.now.window ts
-            → EncodesTiles self.new.gaps.now.window (with_red_at at false ts) }
-        ensures frame { (ts : List ATile) → EncodesTiles self.old.gaps.now.window ts
-            → SameExceptTags self.old.gaps.now.window self.new.gaps.now.window ts (with_red_at at false ts) }
-        ensures steps_exact { self.new.count ≡ self.old.count + 1 }
-        ensures same_borrow { self.new.gaps.ghost_name ≡ self.old.gaps.ghost_name }
+        ensures tags { ChangesTags self.old.gaps.now.window self.new.gaps.now.window (with_red_at at false) }
+        ensures steps_exact { TouchesTimes self.old self.new 1 }
     {
         self.count += 1;
         block_tags::set_red(&mut self.gaps.window, at, false);
@@ -272,8 +246,7 @@ impl<'a> TouchCounter<'a> {
         requires in_bounds { length self.old.gaps.now.window.before + size ≤ length (whole self.old.gaps.now.window) }
         ensures cut { self.new.gaps.now.window
             ≡ cut_at (whole self.old.gaps.now.window) (length self.old.gaps.now.window.before) size }
-        ensures unchanged { self.new.count ≡ self.old.count }
-        ensures same_borrow { self.new.gaps.ghost_name ≡ self.old.gaps.ghost_name }
+        ensures unchanged { TouchesTimes self.old self.new 0 }
     {
         self.gaps.window.resize(size);
     }
@@ -282,14 +255,8 @@ impl<'a> TouchCounter<'a> {
     pub fn append_free(&mut self, old_size: u64)
         requires fits { CanAppend self.old.gaps.now.window old_size }
         requires no_overflow { self.old.count + 1 < 2 ^ 64 }
-        ensures tags { (ts : List ATile) → PrefixSaysTiles self.old.gaps.now.window old_size ts
-            → EncodesTiles self.new.gaps.now.window
-            (with_free ts (old_size - TAG_LEN) (length self.old.gaps.now.window.bytes - TAG_LEN)) }
-        ensures frame { (ts : List ATile) → PrefixSaysTiles self.old.gaps.now.window old_size ts
-            → SameExceptTags self.old.gaps.now.window self.new.gaps.now.window ts
-            (with_free ts (old_size - TAG_LEN) (length self.old.gaps.now.window.bytes - TAG_LEN)) }
-        ensures steps_exact { self.new.count ≡ self.old.count + 1 }
-        ensures same_borrow { self.new.gaps.ghost_name ≡ self.old.gaps.ghost_name }
+        ensures tags { AppendsFree self.old.gaps.now.window self.new.gaps.now.window old_size }
+        ensures steps_exact { TouchesTimes self.old self.new 1 }
     {
         self.count += 1;
         block_tags::append_free(&mut self.gaps.window, old_size);
@@ -300,9 +267,7 @@ impl<'a> TouchCounter<'a> {
         requires tiles { IsTiledWindow self.old.gaps.now.window }
         requires no_overflow { self.old.count + 1 < 2 ^ 64 }
         ensures tile { (ts : List ATile) → EncodesTiles self.old.gaps.now.window ts → result ≡ last_in ts }
-        ensures gaps { self.new.gaps.now ≡ self.old.gaps.now }
-        ensures steps_exact { self.new.count ≡ self.old.count + 1 }
-        ensures same_borrow { self.new.gaps.ghost_name ≡ self.old.gaps.ghost_name }
+        ensures steps_exact { ReadsOnce self.old self.new }
     {
         self.count += 1;
         block_tags::last(&self.gaps.window)
@@ -312,12 +277,8 @@ impl<'a> TouchCounter<'a> {
     pub fn drop_last(&mut self) -> u64
         requires tile { HasFreeLast self.old.gaps.now.window }
         requires no_overflow { self.old.count + 1 < 2 ^ 64 }
-        ensures tags { (ts : List ATile) → EncodesTiles self.old.gaps.now.window ts
-            → PrefixSaysTiles self.new.gaps.now.window result (without_last ts) }
-        ensures frame { (ts : List ATile) → EncodesTiles self.old.gaps.now.window ts
-            → SameExceptTags self.old.gaps.now.window self.new.gaps.now.window ts (without_last ts) }
-        ensures steps_exact { self.new.count ≡ self.old.count + 1 }
-        ensures same_borrow { self.new.gaps.ghost_name ≡ self.old.gaps.ghost_name }
+        ensures tags { DropsLast self.old.gaps.now.window self.new.gaps.now.window result }
+        ensures steps_exact { TouchesTimes self.old self.new 1 }
     {
         self.count += 1;
         block_tags::drop_last(&mut self.gaps.window)

@@ -79,9 +79,6 @@ take-requires-clause-gap c =
     let g = goal.at.take-requires-clause-gap c in let f = sought g.In-Some in
     (f.gap.len, out g.In-Some f (sought_node g.In-Some), f.enough)
 
-pub take-requires-clause-min_len : goal.take-requires-clause-min_len
-take-requires-clause-min_len c = omega arith
-
 pub take-requires-clause-aligned : goal.take-requires-clause-aligned
 take-requires-clause-aligned c = let r = room-IsRoom c.args.n in let whole = r.len in let is = c.room-wanted.ensures in
     subst (λ k. k % 16 ≡ 0) (sym is) whole

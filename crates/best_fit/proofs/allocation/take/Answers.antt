@@ -11,7 +11,7 @@ blacken-requires-clause-tile c = colour_may c.args.touches.now.gaps.now.window c
 pub split_tail-is_cut-requires-clause-tile : goal.split_tail-is_cut-requires-clause-tile
 split_tail-is_cut-requires-clause-tile c =
     cut_stands c.args.touches.now.gaps.now.window c.args.at c.requires.gap.0 c.requires.gap.1 c.args.wanted
-    c.args.role c.blacken.new.self.gaps.now.window c.blacken.ensures.tags c.blacken.ensures.frame
+    c.args.role c.blacken.ensures.tags
 
 pub split_tail-is_cut-requires-clause-max_size : goal.split_tail-is_cut-requires-clause-max_size
 split_tail-is_cut-requires-clause-max_size c =
@@ -21,8 +21,7 @@ split_tail-is_cut-requires-clause-max_size c =
 pub set_use-requires-clause-tile : goal.set_use-requires-clause-tile
 set_use-requires-clause-tile c =
     use_may c.args.touches.now.gaps.now.window c.args.at c.requires.gap.0 c.requires.gap.1 c.args.wanted c.args.role
-    c.blacken.new.self.gaps.now.window c.blacken.ensures.tags c.blacken.ensures.frame
-    c.split_tail-is_cut.new.touches.gaps.now.window c.split_tail-is_cut.ensures.tags c.split_tail-is_cut.ensures.frame
+    c.blacken.ensures.tags c.split_tail-is_cut.ensures.tags
 
 pub overflow_add-at : goal.overflow_add-at
 overflow_add-at c =
@@ -40,9 +39,7 @@ used : (c : After-set_use) (len : ℕ) → IsUnlinkedGap c.args.touches.now.gaps
     c.args.role c.split_tail-is_cut.result
 used c len o =
     taken c.args.touches.now.gaps.now.window c.args.at len o c.args.wanted c.args.role
-    c.blacken.new.self.gaps.now.window c.blacken.ensures.tags c.blacken.ensures.frame
-    c.split_tail-is_cut.new.touches.gaps.now.window c.split_tail-is_cut.ensures.tags c.split_tail-is_cut.ensures.frame
-    c.set_use.new.self.gaps.now.window c.set_use.ensures.tags c.set_use.ensures.frame c.split_tail-is_cut.result
+    c.blacken.ensures.tags c.split_tail-is_cut.ensures.tags c.set_use.ensures.tags c.split_tail-is_cut.result
     c.split_tail-is_cut.ensures.cut
 
 pub link_gap-requires-clause-tree : goal.link_gap-requires-clause-tree

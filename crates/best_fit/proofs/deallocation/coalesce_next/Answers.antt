@@ -1,7 +1,6 @@
 -- The list that results is the one of the call that is made, or the old one.
-use Rattle.best_fit.proofs.Common.{◌≡◌, refl, sym, subst, ◌∙◌, ℕ, true, false, Option, Some, None, is_some, false≢true}
-use Rattle.best_fit.proofs.Common.{SameExceptTags, EncodesTiles}
-use Rattle.best_fit.proofs.tags.TileCuts.{free_next, joined_list, unjoined_list}
+use Rattle.best_fit.proofs.Common.{◌≡◌, refl, sym, ◌∙◌, ℕ, true, false, Option, Some, None, is_some, false≢true}
+use Rattle.best_fit.proofs.tags.TileCuts.{changes_as, free_next, joined_list, same_tags, unjoined_list}
 use Rattle.best_fit.proofs.tags.Writes.{tile_in_list}
 use Rattle.best_fit.proofs.deallocation.coalesce_next.Goals as goal
 
@@ -21,24 +20,15 @@ merge_next-requires-clause-tile c =
     free_next c.args.touches.now.gaps.now.window c.args.at g.0 h (c.requires.gap h.tiles h.said ∙ g.1)
 
 pub returns-then-is_some-clause-tags : goal.returns-then-is_some-clause-tags
-returns-then-is_some-clause-tags c ts said =
-    let w = c.args.touches.now.gaps.now.window in let h = c.requires.tile in
-    let g = there c.args.gap (sym c.is_some.ensures ∙ c.if-is_some.true) in
-    subst (EncodesTiles c.merge_next.new.self.gaps.now.window)
-    (sym (joined_list ts c.args.at h.tile g.0 (tile_in_list w c.args.at h ts said) (c.requires.gap ts said ∙ g.1)))
-    (c.merge_next.ensures.tags ts said)
-
-pub returns-then-is_some-clause-frame : goal.returns-then-is_some-clause-frame
-returns-then-is_some-clause-frame c ts said =
-    let w = c.args.touches.now.gaps.now.window in let h = c.requires.tile in
-    let g = there c.args.gap (sym c.is_some.ensures ∙ c.if-is_some.true) in
-    subst (SameExceptTags w c.merge_next.new.self.gaps.now.window ts)
-    (sym (joined_list ts c.args.at h.tile g.0 (tile_in_list w c.args.at h ts said) (c.requires.gap ts said ∙ g.1)))
-    (c.merge_next.ensures.frame ts said)
+returns-then-is_some-clause-tags c =
+    let h = c.requires.tile in let g = there c.args.gap (sym c.is_some.ensures ∙ c.if-is_some.true) in
+    changes_as (λ ts said. joined_list ts c.args.at h.tile g.0
+    (tile_in_list c.args.touches.now.gaps.now.window c.args.at h ts said) (c.requires.gap ts said ∙ g.1))
+    c.merge_next.ensures.tags
 
 pub returns-else-is_some-clause-tags : goal.returns-else-is_some-clause-tags
-returns-else-is_some-clause-tags c ts said =
+returns-else-is_some-clause-tags c =
     let w = c.args.touches.now.gaps.now.window in let h = c.requires.tile in
     let none = not_there c.args.gap (sym c.is_some.ensures ∙ c.if-is_some.false) in
-    subst (EncodesTiles w) (sym (unjoined_list ts c.args.at h.tile (tile_in_list w c.args.at h ts said)
-    (c.requires.gap ts said ∙ none))) said
+    changes_as (λ ts said. unjoined_list ts c.args.at h.tile (tile_in_list w c.args.at h ts said)
+    (c.requires.gap ts said ∙ none)) (same_tags w)

@@ -1,6 +1,7 @@
 -- The tile before is in the list, and this tile comes after it.
-use Rattle.best_fit.proofs.Common.{sym, subst, ◌∙◌, HasTileAt, SameExceptTags, EncodesTiles, previous_in}
-use Rattle.best_fit.proofs.tags.TileCuts.{read_gap, gap_after_previous, joined_after, not_joined, tile_before}
+use Rattle.best_fit.proofs.Common.{subst, ◌∙◌, HasTileAt, previous_in}
+use Rattle.best_fit.proofs.tags.TileCuts.{changes_as, gap_after_previous, joined_after, not_joined, read_gap}
+use Rattle.best_fit.proofs.tags.TileCuts.{same_tags, tile_before}
 use Rattle.best_fit.proofs.tags.Writes.{tile_in_list}
 use Rattle.best_fit.proofs.deallocation.coalesce_previous.Goals as goal
 
@@ -19,20 +20,9 @@ coalesce_next-requires-clause-gap c = λ ts said.
     (c.requires.gap ts said ∙ c.in-Some.is)
 
 pub returns-in-Some-clause-tags : goal.returns-in-Some-clause-tags
-returns-in-Some-clause-tags c ts said =
-    subst (EncodesTiles c.coalesce_next.new.touches.gaps.now.window)
-    (sym (joined_after (previous_in ts c.args.at) ts c.in-Some.before (c.requires.gap ts said ∙ c.in-Some.is)))
-    (c.coalesce_next.ensures.tags ts said)
-
-pub returns-in-Some-clause-frame : goal.returns-in-Some-clause-frame
-returns-in-Some-clause-frame c ts said =
-    let w = c.args.touches.now.gaps.now.window in
-    subst (SameExceptTags w c.coalesce_next.new.touches.gaps.now.window ts)
-    (sym (joined_after (previous_in ts c.args.at) ts c.in-Some.before (c.requires.gap ts said ∙ c.in-Some.is)))
-    (c.coalesce_next.ensures.frame ts said)
+returns-in-Some-clause-tags c = changes_as (λ ts said. joined_after (previous_in ts c.args.at) ts c.in-Some.before
+    (c.requires.gap ts said ∙ c.in-Some.is)) c.coalesce_next.ensures.tags
 
 pub returns-in_default-clause-tags : goal.returns-in_default-clause-tags
-returns-in_default-clause-tags c ts said =
-    let w = c.args.touches.now.gaps.now.window in
-    subst (EncodesTiles w)
-    (sym (not_joined (previous_in ts c.args.at) ts (c.requires.gap ts said ∙ c.in_default.is))) said
+returns-in_default-clause-tags c = changes_as (λ ts said. not_joined (previous_in ts c.args.at) ts
+    (c.requires.gap ts said ∙ c.in_default.is)) (same_tags c.args.touches.now.gaps.now.window)

@@ -1,18 +1,18 @@
 -- Seven steps: the free neighbours leave the tree, the block and they become one gap, and this gap enters the tree.
-use Rattle.best_fit.proofs.Common.{◌≡◌, sym, ap, ◌∙◌, ◌+◌, ◌*◌, ◌≤◌, ◌∷◌, ◌++◌, length, arith, refl, Option, Tile}
+use Rattle.best_fit.proofs.Common.{ℕ, ◌≡◌, sym, ap, ◌∙◌, ◌+◌, ◌*◌, ◌≤◌, ◌∷◌, ◌++◌, length, arith, refl, Option, Tile}
 use Rattle.best_fit.proofs.Common.{first_in, last_in, without_last, HasTileAt, EncodesTiles, bits, gaps_of, gaps_in}
 use Rattle.best_fit.proofs.Common.{HasGapTree, ChangesGapTree, gap_offset, tile_list, offset_of, start_of}
 use Rattle.best_fit.proofs.allocation.LeastGap.{bits-le}
-use Rattle.best_fit.proofs.deallocation.Coalescing.{GivenBack, HalfUprooted, Uprooted, few_steps, first_tree}
-use Rattle.best_fit.proofs.deallocation.Coalescing.{given_back, r_before3, r_behind2, r_free3}
-use Rattle.best_fit.proofs.deallocation.Coalescing.{half_uprooted, next_is, previous_is, r_colour, r_stands2, r_stands3}
-use Rattle.best_fit.proofs.deallocation.Coalescing.{r_use}
-use Rattle.best_fit.proofs.deallocation.Coalescing.{uprooted}
+use Rattle.best_fit.proofs.deallocation.Coalescing.{GivenBack, HalfUprooted, Uprooted, alone, first_tree, given_back}
+use Rattle.best_fit.proofs.deallocation.Coalescing.{half_uprooted, next_is, previous_is, r_before3, r_behind2, uprooted}
+use Rattle.best_fit.proofs.deallocation.OneGap.{HasUsed, colour_may, free3, freed as freed_of, stands2}
+use Rattle.best_fit.proofs.deallocation.OneGap.{stands3, use_may}
 use Rattle.best_fit.proofs.tags.TileJoins.{rest_of}
 use Rattle.best_fit.proofs.free_tree.UnlinkIfGap.{option_few, option_offset}
 use Rattle.best_fit.proofs.tags.Writes.{Block, block_tile, live_block}
 use Rattle.best_fit.proofs.deallocation.release.Goals.{After-next-behind, After-previous-before, After-unlink_if_gap}
 use Rattle.best_fit.proofs.deallocation.release.Goals.{After-unlink_if_gap-2, After-coalesce_previous}
+use Rattle.std.specs.Prelude.{unwrap_or}
 use Rattle.best_fit.proofs.deallocation.release.Goals as goal
 
 pub next-behind-requires-clause-tile : goal.next-behind-requires-clause-tile
@@ -88,14 +88,6 @@ unlink_if_gap-requires-2-clause-tree c =
       (half g.After-unlink_if_gap b (behind p)).tree,
     )
 
-pub unlink_if_gap-requires-2-clause-no_overflow : goal.unlink_if_gap-requires-2-clause-no_overflow
-unlink_if_gap-requires-2-clause-no_overflow c =
-    let g = goal.at.unlink_if_gap-requires-2-clause-no_overflow c in let p = g.After-previous-before in
-    let steps = (half g.After-unlink_if_gap (block p) (behind p)).steps in
-    let start = c.requires.no_overflow in let few =
-    few_steps c.args.touches.now.gaps.now.window c.args.at c.requires.heap
-    (block p) in omega arith
-
 -- the free tile before the block, if there is one, has left the tree too
 both : (c : After-unlink_if_gap-2) (b : Block c.args.touches.now.gaps.now.window (c.args.at + 16))
     → c.previous-before.result ≡ last_in b.front
@@ -117,103 +109,60 @@ both c b before_is h =
     c.unlink_if_gap-2.ensures.frame
     (c.unlink_if_gap-2.ensures.steps (init ++ (last ++ tail)) h.tree)
 
+-- the block stands between tiles whose gaps have left the tree
+lone : (c : After-unlink_if_gap-2) (b : Block c.args.touches.now.gaps.now.window (c.args.at + 16))
+    → Uprooted c.args.touches.now.gaps.now.window c.args.at c.requires.heap b
+    c.unlink_if_gap-2.new.touches.gaps.now.window c.args.touches.now.count c.unlink_if_gap-2.new.touches.count
+    → HasUsed c.unlink_if_gap-2.new.touches.gaps.now.window c.args.at
+lone c b u = alone c.args.touches.now.gaps.now.window c.args.at c.requires.heap b
+    c.unlink_if_gap-2.new.touches.gaps.now.window u.tree u.rest
+
 pub blacken-requires-clause-tile : goal.blacken-requires-clause-tile
 blacken-requires-clause-tile c =
     let g = goal.at.blacken-requires-clause-tile c in let p = g.After-previous-before in let b = block p in
     let u = both g.After-unlink_if_gap-2 b (before p) (half g.After-unlink_if_gap b (behind p)) in
-    r_colour c.args.touches.now.gaps.now.window c.args.at c.requires.heap b
-    c.unlink_if_gap-2.new.touches.gaps.now.window u.tree u.rest
-
-pub blacken-requires-clause-no_overflow : goal.blacken-requires-clause-no_overflow
-blacken-requires-clause-no_overflow c =
-    let g = goal.at.blacken-requires-clause-no_overflow c in let p = g.After-previous-before in let b = block p in
-    let steps = (both g.After-unlink_if_gap-2 b (before p) (half g.After-unlink_if_gap b (behind p))).steps in
-    let start = c.requires.no_overflow in let few = few_steps c.args.touches.now.gaps.now.window c.args.at
-    c.requires.heap b in omega arith
+    colour_may (lone g.After-unlink_if_gap-2 b u)
 
 pub set_use-requires-clause-tile : goal.set_use-requires-clause-tile
 set_use-requires-clause-tile c =
     let g = goal.at.set_use-requires-clause-tile c in let p = g.After-previous-before in let b = block p in
     let u = both g.After-unlink_if_gap-2 b (before p) (half g.After-unlink_if_gap b (behind p)) in
-    r_use c.args.touches.now.gaps.now.window c.args.at c.requires.heap b
-    c.unlink_if_gap-2.new.touches.gaps.now.window u.tree
-    u.rest c.blacken.new.self.gaps.now.window c.blacken.ensures.tags c.blacken.ensures.frame
-
-pub set_use-requires-clause-no_overflow : goal.set_use-requires-clause-no_overflow
-set_use-requires-clause-no_overflow c =
-    let g = goal.at.set_use-requires-clause-no_overflow c in let p = g.After-previous-before in let b = block p in
-    let steps = (both g.After-unlink_if_gap-2 b (before p) (half g.After-unlink_if_gap b (behind p))).steps in
-    let start = c.requires.no_overflow in let few =
-    few_steps c.args.touches.now.gaps.now.window c.args.at c.requires.heap
-    b in let n1 = c.blacken.ensures.steps_exact in omega arith
+    use_may (lone g.After-unlink_if_gap-2 b u) c.blacken.ensures.tags
 
 pub coalesce_next-requires-clause-tile : goal.coalesce_next-requires-clause-tile
 coalesce_next-requires-clause-tile c =
     let g = goal.at.coalesce_next-requires-clause-tile c in let p = g.After-previous-before in let b = block p in
     let u = both g.After-unlink_if_gap-2 b (before p) (half g.After-unlink_if_gap b (behind p)) in
-    r_stands2 c.args.touches.now.gaps.now.window c.args.at c.requires.heap b
-    c.unlink_if_gap-2.new.touches.gaps.now.window
-    u.tree u.rest c.blacken.new.self.gaps.now.window c.blacken.ensures.tags c.blacken.ensures.frame
-    c.set_use.new.self.gaps.now.window c.set_use.ensures.tags c.set_use.ensures.frame
+    stands2 (lone g.After-unlink_if_gap-2 b u) c.blacken.ensures.tags c.set_use.ensures.tags
 
 pub coalesce_next-requires-clause-gap : goal.coalesce_next-requires-clause-gap
 coalesce_next-requires-clause-gap c = λ ts said.
     let g = goal.at.coalesce_next-requires-clause-gap c in let p = g.After-previous-before in let b = block p in
     let u = both g.After-unlink_if_gap-2 b (before p) (half g.After-unlink_if_gap b (behind p)) in
     r_behind2 c.args.touches.now.gaps.now.window c.args.at c.requires.heap b
-    c.unlink_if_gap-2.new.touches.gaps.now.window
-    u.tree u.rest c.blacken.new.self.gaps.now.window c.blacken.ensures.tags c.blacken.ensures.frame
-    c.set_use.new.self.gaps.now.window c.set_use.ensures.tags c.set_use.ensures.frame ts said
+    c.unlink_if_gap-2.new.touches.gaps.now.window u.tree u.rest c.blacken.ensures.tags c.set_use.ensures.tags ts said
     ∙ sym (c.gap_at-gap_behind.ensures ∙ ap gap_offset (behind p))
-
-pub coalesce_next-requires-clause-no_overflow : goal.coalesce_next-requires-clause-no_overflow
-coalesce_next-requires-clause-no_overflow c =
-    let g = goal.at.coalesce_next-requires-clause-no_overflow c in let p = g.After-previous-before in let b = block p in
-    let steps = (both g.After-unlink_if_gap-2 b (before p) (half g.After-unlink_if_gap b (behind p))).steps in
-    let start = c.requires.no_overflow in let few =
-    few_steps c.args.touches.now.gaps.now.window c.args.at c.requires.heap
-    b in let n1 = c.blacken.ensures.steps_exact in let n2 = c.set_use.ensures.steps_exact in omega arith
 
 pub coalesce_previous-requires-clause-tile : goal.coalesce_previous-requires-clause-tile
 coalesce_previous-requires-clause-tile c =
     let g = goal.at.coalesce_previous-requires-clause-tile c in let p = g.After-previous-before in let b = block p in
     let u = both g.After-unlink_if_gap-2 b (before p) (half g.After-unlink_if_gap b (behind p)) in
-    r_stands3 c.args.touches.now.gaps.now.window c.args.at c.requires.heap b
-    c.unlink_if_gap-2.new.touches.gaps.now.window
-    u.tree u.rest c.blacken.new.self.gaps.now.window c.blacken.ensures.tags c.blacken.ensures.frame
-    c.set_use.new.self.gaps.now.window c.set_use.ensures.tags c.set_use.ensures.frame
-    c.coalesce_next.new.touches.gaps.now.window c.coalesce_next.ensures.tags c.coalesce_next.ensures.frame
+    stands3 (lone g.After-unlink_if_gap-2 b u) c.blacken.ensures.tags c.set_use.ensures.tags
+    c.coalesce_next.ensures.tags
 
 pub coalesce_previous-requires-clause-free : goal.coalesce_previous-requires-clause-free
 coalesce_previous-requires-clause-free c =
     let g = goal.at.coalesce_previous-requires-clause-free c in let p = g.After-previous-before in let b = block p in
     let u = both g.After-unlink_if_gap-2 b (before p) (half g.After-unlink_if_gap b (behind p)) in
-    r_free3 c.args.touches.now.gaps.now.window c.args.at c.requires.heap b
-    c.unlink_if_gap-2.new.touches.gaps.now.window
-    u.tree u.rest c.blacken.new.self.gaps.now.window c.blacken.ensures.tags c.blacken.ensures.frame
-    c.set_use.new.self.gaps.now.window c.set_use.ensures.tags c.set_use.ensures.frame
-    c.coalesce_next.new.touches.gaps.now.window c.coalesce_next.ensures.tags c.coalesce_next.ensures.frame
+    free3 (lone g.After-unlink_if_gap-2 b u) c.blacken.ensures.tags c.set_use.ensures.tags c.coalesce_next.ensures.tags
 
 pub coalesce_previous-requires-clause-gap : goal.coalesce_previous-requires-clause-gap
 coalesce_previous-requires-clause-gap c = λ ts said.
     let g = goal.at.coalesce_previous-requires-clause-gap c in let p = g.After-previous-before in let b = block p in
     let u = both g.After-unlink_if_gap-2 b (before p) (half g.After-unlink_if_gap b (behind p)) in
     r_before3 c.args.touches.now.gaps.now.window c.args.at c.requires.heap b
-    c.unlink_if_gap-2.new.touches.gaps.now.window
-    u.tree u.rest c.blacken.new.self.gaps.now.window c.blacken.ensures.tags c.blacken.ensures.frame
-    c.set_use.new.self.gaps.now.window c.set_use.ensures.tags c.set_use.ensures.frame
-    c.coalesce_next.new.touches.gaps.now.window c.coalesce_next.ensures.tags c.coalesce_next.ensures.frame ts said
-    ∙ sym (c.gap_at-gap_before.ensures ∙ ap gap_offset (before p))
-
-pub coalesce_previous-requires-clause-no_overflow : goal.coalesce_previous-requires-clause-no_overflow
-coalesce_previous-requires-clause-no_overflow c =
-    let g = goal.at.coalesce_previous-requires-clause-no_overflow c in let p = g.After-previous-before in let b =
-    block p in
-    let steps = (both g.After-unlink_if_gap-2 b (before p) (half g.After-unlink_if_gap b (behind p))).steps in
-    let start = c.requires.no_overflow in let few =
-    few_steps c.args.touches.now.gaps.now.window c.args.at c.requires.heap b in
-    let n1 = c.blacken.ensures.steps_exact in let n2 = c.set_use.ensures.steps_exact in
-    let n3 = c.coalesce_next.ensures.steps_upper in omega arith
+    c.unlink_if_gap-2.new.touches.gaps.now.window u.tree u.rest c.blacken.ensures.tags c.set_use.ensures.tags
+    c.coalesce_next.ensures.tags ts said ∙ sym (c.gap_at-gap_before.ensures ∙ ap gap_offset (before p))
 
 -- the block has become one gap with its free neighbours
 freed : (c : After-coalesce_previous) (b : Block c.args.touches.now.gaps.now.window (c.args.at + 16))
@@ -224,11 +173,10 @@ freed : (c : After-coalesce_previous) (b : Block c.args.touches.now.gaps.now.win
     (start_of (last_in b.front) c.args.at)
 freed c b u =
     given_back c.args.touches.now.gaps.now.window c.args.at c.requires.heap b
-    c.unlink_if_gap-2.new.touches.gaps.now.window
-    u.tree u.rest c.blacken.new.self.gaps.now.window c.blacken.ensures.tags c.blacken.ensures.frame
-    c.set_use.new.self.gaps.now.window c.set_use.ensures.tags c.set_use.ensures.frame
-    c.coalesce_next.new.touches.gaps.now.window c.coalesce_next.ensures.tags c.coalesce_next.ensures.frame
-    c.coalesce_previous.new.touches.gaps.now.window c.coalesce_previous.ensures.tags c.coalesce_previous.ensures.frame
+    c.unlink_if_gap-2.new.touches.gaps.now.window u.tree u.rest
+    (freed_of (alone c.args.touches.now.gaps.now.window c.args.at c.requires.heap b
+    c.unlink_if_gap-2.new.touches.gaps.now.window u.tree u.rest) c.blacken.ensures.tags c.set_use.ensures.tags
+    c.coalesce_next.ensures.tags c.coalesce_previous.ensures.tags)
 
 counted : (c : After-coalesce_previous) (b : Block c.args.touches.now.gaps.now.window (c.args.at + 16))
     → Uprooted c.args.touches.now.gaps.now.window c.args.at c.requires.heap b
@@ -239,37 +187,34 @@ counted : (c : After-coalesce_previous) (b : Block c.args.touches.now.gaps.now.w
 counted c b u =
     omega arith
 
-pub overflow_add-start : goal.overflow_add-start
-overflow_add-start c =
-    let g = goal.at.overflow_add-start c in let p = g.After-previous-before in let b = block p in
+-- where the gap begins
+starts : {read last : Option Tile} {gap : Option ℕ} {start : ℕ} (at : ℕ) → gap ≡ gap_offset read → read ≡ last
+    → start ≡ unwrap_or gap at → start ≡ start_of last at
+starts at e f is = is ∙ ap (λ (o : Option ℕ). unwrap_or o at) (e ∙ ap gap_offset f)
+
+pub overflow_add-unwrap_or : goal.overflow_add-unwrap_or
+overflow_add-unwrap_or c =
+    let g = goal.at.overflow_add-unwrap_or c in let p = g.After-previous-before in let b = block p in
     let small = (freed g.After-coalesce_previous b
     (both g.After-unlink_if_gap-2 b (before p) (half g.After-unlink_if_gap b (behind p)))).small in
-    let is : c.start.result ≡ start_of (last_in b.front) c.args.at = c.start.ensures
-    ∙ ap (λ (o : Option Tile). start_of o c.args.at) (before p) in omega arith
+    let is : c.unwrap_or.result ≡ start_of (last_in b.front) c.args.at = starts c.args.at c.gap_at-gap_before.ensures
+    (before p) c.unwrap_or.ensures in omega arith
 
 pub link_gap-requires-clause-tree : goal.link_gap-requires-clause-tree
 link_gap-requires-clause-tree c =
     let g = goal.at.link_gap-requires-clause-tree c in let p = g.After-previous-before in let b = block p in
     let f = freed g.After-coalesce_previous b
     (both g.After-unlink_if_gap-2 b (before p) (half g.After-unlink_if_gap b (behind p))) in
-    let is = c.start.ensures ∙ ap (λ (o : Option Tile). start_of o c.args.at) (before p) in
+    let is = starts c.args.at c.gap_at-gap_before.ensures (before p) c.unwrap_or.ensures in
     (f.front, f.gap, f.back, ap (λ k. k + 16) is ∙ f.node, f.lacks)
-
-pub link_gap-requires-clause-no_overflow : goal.link_gap-requires-clause-no_overflow
-link_gap-requires-clause-no_overflow c =
-    let g = goal.at.link_gap-requires-clause-no_overflow c in let p = g.After-previous-before in let b = block p in
-    let steps = counted g.After-coalesce_previous b
-    (both g.After-unlink_if_gap-2 b (before p) (half g.After-unlink_if_gap b (behind p))) in
-    let start = c.requires.no_overflow in let few = few_steps c.args.touches.now.gaps.now.window c.args.at
-    c.requires.heap b in omega arith
 
 pub returns-clause-released : goal.returns-clause-released
 returns-clause-released c =
     let g = goal.at.returns-clause-released c in let p = g.After-previous-before in let b = block p in
     let f = freed g.After-coalesce_previous b
     (both g.After-unlink_if_gap-2 b (before p) (half g.After-unlink_if_gap b (behind p))) in
-    let node = ap (λ k. k + 16)
-    (c.start.ensures ∙ ap (λ (o : Option Tile). start_of o c.args.at) (before p)) ∙ f.node in
+    let is = starts c.args.at c.gap_at-gap_before.ensures (before p) c.unwrap_or.ensures in
+    let node = ap (λ k. k + 16) is ∙ f.node in
     f.released c.link_gap.new.self.gaps.now.window (c.link_gap.ensures.tree f.front f.gap f.back node f.lacks)
     c.link_gap.ensures.frame
 
@@ -279,8 +224,8 @@ returns-clause-steps c =
     let w = c.args.touches.now.gaps.now.window in
     let u = both g.After-unlink_if_gap-2 b (before p) (half g.After-unlink_if_gap b (behind p)) in
     let f = freed g.After-coalesce_previous b u in let steps = counted g.After-coalesce_previous b u in
-    let node = ap (λ k. k + 16)
-    (c.start.ensures ∙ ap (λ (o : Option Tile). start_of o c.args.at) (before p)) ∙ f.node in
+    let is = starts c.args.at c.gap_at-gap_before.ensures (before p) c.unwrap_or.ensures in
+    let node = ap (λ k. k + 16) is ∙ f.node in
     let last = c.link_gap.ensures.steps f.front f.gap f.back node f.lacks in let few = f.few in
     let fewer = bits-le (length (f.front ++ f.back) + 1) (length (gaps_in w) + 1) (omega arith) in
     omega arith

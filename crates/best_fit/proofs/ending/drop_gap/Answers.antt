@@ -9,13 +9,11 @@ drop_last-size-requires-clause-tile c = has_free_last c.args.touches.now.gaps.no
 pub resize-requires : goal.resize-requires
 resize-requires c = record {
   in_bounds = drop_fits c.args.touches.now.gaps.now.window c.requires.tree.0 c.requires.tree.1 c.requires.tree.2
-      c.requires.tree.3 c.requires.tree.4 c.drop_last-size.new.self.gaps.now.window c.drop_last-size.result
-      c.drop_last-size.ensures.tags c.drop_last-size.ensures.frame;
+      c.requires.tree.3 c.requires.tree.4 c.drop_last-size.ensures.tags;
 }
 
 pub returns-clause-changes : goal.returns-clause-changes
 returns-clause-changes c =
     gap_dropped c.args.touches.now.gaps.now.window c.requires.tree.0 c.requires.tree.1 c.requires.tree.2
-    c.requires.tree.3 c.requires.tree.4
-    c.drop_last-size.new.self.gaps.now.window c.drop_last-size.result c.drop_last-size.ensures.tags
-    c.drop_last-size.ensures.frame c.resize.new.self.gaps.now.window c.resize.ensures.cut
+    c.requires.tree.3 c.requires.tree.4 c.drop_last-size.ensures.tags c.resize.new.self.gaps.now.window
+    c.resize.ensures.cut

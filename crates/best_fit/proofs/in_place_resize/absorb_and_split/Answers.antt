@@ -3,10 +3,11 @@ use Rattle.best_fit.proofs.Common.{◌≡◌, refl, sym, ap, ◌∙◌, ◌+◌,
 use Rattle.best_fit.proofs.Common.{HasGapTree, ChangesGapTree, gap_offset, tile_list, offset_of}
 use Rattle.best_fit.proofs.allocation.LeastGap.{bits-le}
 use Rattle.best_fit.proofs.tags.TileJoins.{rest_of}
-use Rattle.best_fit.proofs.in_place_resize.CutOff.{Recut, TailUprooted, behind_is, c_behind0, c_stands0, c_stands1}
-use Rattle.best_fit.proofs.in_place_resize.CutOff.{few_steps}
-use Rattle.best_fit.proofs.in_place_resize.CutOff.{recut}
-use Rattle.best_fit.proofs.in_place_resize.CutOff.{tail_uprooted, tree_w}
+use Rattle.best_fit.proofs.deallocation.Coalescing.{next_is}
+use Rattle.best_fit.proofs.deallocation.OneGap.{HasUsed}
+use Rattle.best_fit.proofs.in_place_resize.CutOff.{Recut, TailUprooted, c_behind0, joinable, recut, tail_uprooted}
+use Rattle.best_fit.proofs.in_place_resize.CutOff.{tree_w}
+use Rattle.best_fit.proofs.in_place_resize.NextGap.{t_stands0, t_stands1}
 use Rattle.best_fit.proofs.free_tree.UnlinkIfGap.{option_few, option_offset}
 use Rattle.best_fit.proofs.tags.Writes.{Block, block_tile, live_block}
 use Rattle.best_fit.proofs.in_place_resize.absorb_and_split.Goals.{After-next-behind, After-unlink_if_gap}
@@ -24,7 +25,7 @@ block c = live_block c.args.touches.now.gaps.now.window (c.args.at + 16) c.requi
 
 behind : (c : After-next-behind) → c.next-behind.result ≡ first_in (block c).back
 behind c = let b = block c in c.next-behind.ensures.tile (b.front ++ (b.tile ∷ b.back)) b.said
-    ∙ behind_is c.args.touches.now.gaps.now.window c.args.at c.requires.heap b c.args.wanted
+    ∙ next_is c.args.touches.now.gaps.now.window c.args.at c.requires.heap b
 
 pub unlink_if_gap-requires-clause-tree : goal.unlink_if_gap-requires-clause-tree
 unlink_if_gap-requires-clause-tree c =
@@ -60,12 +61,18 @@ gone c b behind_is =
     (c.unlink_if_gap.ensures.tree fs first tail is (option_few (first_in b.back)) tree) rest (omega arith)
     (c.unlink_if_gap.ensures.steps (fs ++ (first ++ tail)) tree)
 
+-- the block, with the gap after it out of the tree
+joined : (c : After-unlink_if_gap) (b : Block c.args.touches.now.gaps.now.window (c.args.at + 16))
+    → TailUprooted c.args.touches.now.gaps.now.window c.args.at c.requires.heap b c.args.wanted
+    c.unlink_if_gap.new.touches.gaps.now.window c.args.touches.now.count c.unlink_if_gap.new.touches.count
+    → HasUsed c.unlink_if_gap.new.touches.gaps.now.window c.args.at
+joined c b u = joinable c.args.touches.now.gaps.now.window c.args.at c.requires.heap b c.args.wanted
+    c.unlink_if_gap.new.touches.gaps.now.window u.tree u.rest
+
 pub coalesce_next-requires-clause-tile : goal.coalesce_next-requires-clause-tile
 coalesce_next-requires-clause-tile c =
     let g = goal.at.coalesce_next-requires-clause-tile c in let p = g.After-next-behind in let b = block p in
-    let u = gone g.After-unlink_if_gap b (behind p)
-    in c_stands0 c.args.touches.now.gaps.now.window c.args.at c.requires.heap
-    b c.args.wanted c.unlink_if_gap.new.touches.gaps.now.window u.tree u.rest
+    t_stands0 (joined g.After-unlink_if_gap b (gone g.After-unlink_if_gap b (behind p))) c.args.wanted
 
 pub coalesce_next-requires-clause-gap : goal.coalesce_next-requires-clause-gap
 coalesce_next-requires-clause-gap c = λ ts said.
@@ -75,28 +82,11 @@ coalesce_next-requires-clause-gap c = λ ts said.
     c.unlink_if_gap.new.touches.gaps.now.window u.tree u.rest ts said
     ∙ sym (c.gap_at-gap.ensures ∙ ap gap_offset (behind p))
 
-pub coalesce_next-requires-clause-no_overflow : goal.coalesce_next-requires-clause-no_overflow
-coalesce_next-requires-clause-no_overflow c =
-    let g = goal.at.coalesce_next-requires-clause-no_overflow c in let p = g.After-next-behind in
-    let steps = (gone g.After-unlink_if_gap (block p) (behind p)).steps in
-    let few = few_steps c.args.touches.now.gaps.now.window c.args.at c.requires.heap (block p) c.args.wanted in
-    let room = c.requires.no_overflow in omega arith
-
 pub split_tail-is_cut-requires-clause-tile : goal.split_tail-is_cut-requires-clause-tile
 split_tail-is_cut-requires-clause-tile c =
     let g = goal.at.split_tail-is_cut-requires-clause-tile c in let p = g.After-next-behind in let b = block p in
-    let u = gone g.After-unlink_if_gap b (behind p) in
-    c_stands1 c.args.touches.now.gaps.now.window c.args.at c.requires.heap b c.args.wanted
-    c.unlink_if_gap.new.touches.gaps.now.window u.tree u.rest c.coalesce_next.new.touches.gaps.now.window
-    c.coalesce_next.ensures.tags c.coalesce_next.ensures.frame
-
-pub split_tail-is_cut-requires-clause-no_overflow : goal.split_tail-is_cut-requires-clause-no_overflow
-split_tail-is_cut-requires-clause-no_overflow c =
-    let g = goal.at.split_tail-is_cut-requires-clause-no_overflow c in let p = g.After-next-behind in
-    let steps = (gone g.After-unlink_if_gap (block p) (behind p)).steps in let two =
-    c.coalesce_next.ensures.steps_upper in
-    let few = few_steps c.args.touches.now.gaps.now.window c.args.at c.requires.heap (block p) c.args.wanted in
-    let room = c.requires.no_overflow in omega arith
+    t_stands1 (joined g.After-unlink_if_gap b (gone g.After-unlink_if_gap b (behind p))) c.args.wanted
+    c.coalesce_next.ensures.tags
 
 pub overflow_add-at : goal.overflow_add-at
 overflow_add-at c =
@@ -116,26 +106,14 @@ cut : (c : After-split_tail-is_cut) (b : Block c.args.touches.now.gaps.now.windo
     c.args.wanted c.split_tail-is_cut.result
 cut c b u =
     recut c.args.touches.now.gaps.now.window c.args.at c.requires.heap b c.args.wanted
-    c.unlink_if_gap.new.touches.gaps.now.window u.tree u.rest c.coalesce_next.new.touches.gaps.now.window
-    c.coalesce_next.ensures.tags c.coalesce_next.ensures.frame
-    c.split_tail-is_cut.new.touches.gaps.now.window c.split_tail-is_cut.ensures.tags
-    c.split_tail-is_cut.ensures.frame c.split_tail-is_cut.result
-    c.split_tail-is_cut.ensures.cut
+    c.unlink_if_gap.new.touches.gaps.now.window u.tree u.rest c.coalesce_next.ensures.tags
+    c.split_tail-is_cut.ensures.tags c.split_tail-is_cut.result c.split_tail-is_cut.ensures.cut
 
 pub link_gap-requires-clause-tree : goal.link_gap-requires-clause-tree
 link_gap-requires-clause-tree c =
     let g = goal.at.link_gap-requires-clause-tree c in let p = g.After-next-behind in let b = block p in
     let r = cut g.After-split_tail-is_cut b (gone g.After-unlink_if_gap b (behind p)) in
     (r.front, r.gap, r.back, r.node, r.lacks c.if-is_cut.true)
-
-pub link_gap-requires-clause-no_overflow : goal.link_gap-requires-clause-no_overflow
-link_gap-requires-clause-no_overflow c =
-    let g = goal.at.link_gap-requires-clause-no_overflow c in let p = g.After-next-behind in
-    let steps = (gone g.After-unlink_if_gap (block p) (behind p)).steps in let two =
-    c.coalesce_next.ensures.steps_upper in
-    let more = c.split_tail-is_cut.ensures.steps_upper in
-    let few = few_steps c.args.touches.now.gaps.now.window c.args.at c.requires.heap (block p) c.args.wanted in
-    let room = c.requires.no_overflow in omega arith
 
 pub returns-then-is_cut-clause-cut : goal.returns-then-is_cut-clause-cut
 returns-then-is_cut-clause-cut c =

@@ -1,7 +1,6 @@
 -- The block and the gap after it are read, and the block gets the part of the gap that it needs.
 use Rattle.best_fit.proofs.Common.{◌≡◌, refl, sym, subst, inl, inr, ◌+◌, ◌%◌, length, arith, WindowState, current}
-use Rattle.best_fit.proofs.Common.{HasTileAt}
-use Rattle.best_fit.proofs.Common.{gaps_in, TryExtends, SplitsBlock}
+use Rattle.best_fit.proofs.Common.{HasTileAt, gaps_in, TryExtends, SplitsBlock}
 use Rattle.best_fit.proofs.allocation.LeastGap.{bits_some, heap_bits}
 use Rattle.best_fit.proofs.in_place_resize.NewLength.{Measured, extended, measured, not_extended, room_above}
 use Rattle.best_fit.proofs.extents.FirstFit.{room-IsRoom}
@@ -45,9 +44,6 @@ pub absorb_and_split-requires-clause-live : goal.absorb_and_split-requires-claus
 absorb_and_split-requires-clause-live c =
     rw (read_twice (goal.at.absorb_and_split-requires-clause-live c).After-next_gap_len-gap)
     c.requires.live
-
-pub absorb_and_split-requires-clause-min_len : goal.absorb_and_split-requires-clause-min_len
-absorb_and_split-requires-clause-min_len c = omega arith
 
 pub absorb_and_split-requires-clause-aligned : goal.absorb_and_split-requires-clause-aligned
 absorb_and_split-requires-clause-aligned c =

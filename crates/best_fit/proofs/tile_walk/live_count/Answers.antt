@@ -1,8 +1,7 @@
 -- Each turn of the walk passes one tile.
 use Rattle.best_fit.proofs.Common.{arith, sym, subst, ◌∙◌, ℕ}
 use Rattle.best_fit.proofs.tile_walk.Walk.{StillLive, left_start, left_next, left_goes_on, left_nearer, left_end}
-use Rattle.best_fit.proofs.tile_walk.Walk.{live_few}
-use Rattle.best_fit.proofs.tile_walk.Walk.{live_more, live_same, live_start, window_tiled}
+use Rattle.best_fit.proofs.tile_walk.Walk.{live_few, live_more, live_same, live_start, window_tiled}
 use Rattle.best_fit.proofs.tile_walk.live_count.Goals.{then-is_some, else-is_some}
 use Rattle.best_fit.proofs.tile_walk.live_count.Goals as goal
 

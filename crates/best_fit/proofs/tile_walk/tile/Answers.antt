@@ -1,8 +1,7 @@
 -- Each turn of the walk passes one tile.
 use Rattle.best_fit.proofs.Common.{◌+◌, ◌∙◌, arith}
 use Rattle.best_fit.proofs.tile_walk.Walk.{StillAt, left_start, left_next, left_goes_on, left_end, index_found}
-use Rattle.best_fit.proofs.tile_walk.Walk.{index_passed}
-use Rattle.best_fit.proofs.tile_walk.Walk.{index_start, window_tiled}
+use Rattle.best_fit.proofs.tile_walk.Walk.{index_passed, index_start, window_tiled}
 use Rattle.best_fit.proofs.tile_walk.tile.Goals as goal
 
 pub first-ahead-requires : goal.first-ahead-requires

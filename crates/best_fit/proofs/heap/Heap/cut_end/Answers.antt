@@ -1,7 +1,6 @@
 -- What is done to the window is done to the heap.
 use Rattle.best_fit.proofs.Common.{◌≡◌, subst, ◌∙◌, ◌*◌, ◌+◌, ◌≤◌, length, arith, WindowState, bits, gaps_in, current}
-use Rattle.best_fit.proofs.Common.{least_size}
-use Rattle.best_fit.proofs.Common.{of_size, EncodesLiveSet, heap_touches, live_of}
+use Rattle.best_fit.proofs.Common.{least_size, of_size, EncodesLiveSet, heap_touches, live_of}
 use Rattle.best_fit.proofs.allocation.LeastGap.{heap_bits}
 use Rattle.best_fit.proofs.tile_walk.Hints.{held-on}
 use Rattle.best_fit.proofs.heap.Heap.cut_end.Goals as goal

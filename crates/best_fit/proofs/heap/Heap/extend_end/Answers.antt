@@ -1,7 +1,6 @@
 -- A block is appended after all others, and freed.
 use Rattle.best_fit.proofs.Common.{◌≡◌, ap, subst, ◌+◌, ◌≤◌, List, length, arith, WindowState, current, bits}
-use Rattle.best_fit.proofs.Common.{AppendsBlock}
-use Rattle.best_fit.proofs.Common.{MovesEnd, of_size, Gap, gaps_in, heap_touches, live_of}
+use Rattle.best_fit.proofs.Common.{AppendsBlock, MovesEnd, of_size, Gap, gaps_in, heap_touches, live_of}
 use Rattle.best_fit.proofs.allocation.LeastGap.{heap_bits}
 use Rattle.best_fit.proofs.ending.LastBlock.{behind_heap, behind_live, end_moved}
 use Rattle.best_fit.proofs.tile_walk.Hints.{held-on}

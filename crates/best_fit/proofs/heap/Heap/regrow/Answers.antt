@@ -1,7 +1,6 @@
 -- The block has the room, or it is lengthened, or it is replaced.
 use Rattle.best_fit.proofs.Common.{◌≡◌, sym, subst, IsTrue, IfSome, WindowState, current, Regrows, RegrowsOk, IsHeap}
-use Rattle.best_fit.proofs.Common.{has_room}
-use Rattle.best_fit.proofs.Common.{live_of}
+use Rattle.best_fit.proofs.Common.{has_room, live_of}
 use Rattle.best_fit.specs.Exchange.{block_of}
 use Rattle.best_fit.proofs.exchange.OneExchange.{given-same, given-longer, not_longer-same, regrows-replaced}
 use Rattle.best_fit.proofs.exchange.OneExchange.{regrows-none}

@@ -1,8 +1,6 @@
 -- The new block is allocated while the old one is in use.
 use Rattle.best_fit.proofs.Common.{◌≡◌, ◌+◌, subst, arith, IsTrue, WindowState, bytes_of, read, current, ChangesBytes}
-use Rattle.best_fit.proofs.Common.{IsHeap}
-use Rattle.best_fit.proofs.Common.{has_room}
-use Rattle.best_fit.proofs.Common.{live_of, Storage}
+use Rattle.best_fit.proofs.Common.{IsHeap, has_room, live_of, Storage}
 use Rattle.best_fit.proofs.allocation.NewBlock.{allocated-room, allocated-room_before, changed-room, has_room-names}
 use Rattle.best_fit.proofs.exchange.OneExchange.{allocated-fits, replaced}
 use Rattle.best_fit.proofs.heap.Heap.replace.Goals as goal

@@ -1,8 +1,7 @@
 -- The tree has the gaps among the tiles that are passed, and nothing else has changed.
 use Rattle.best_fit.proofs.Common.{length}
 use Rattle.best_fit.proofs.free_tree.Rebuild.{HasPlanted}
-use Rattle.best_fit.proofs.tile_walk.Walk.{Walk}
-use Rattle.best_fit.proofs.tile_walk.Walk.{to_go}
+use Rattle.best_fit.proofs.tile_walk.Walk.{Walk, to_go}
 use Rattle.best_fit.proofs.heap.free_tree_build.plant_gaps.Given as goal
 
 abbrev pub invariant-tiles : goal.invariant-tiles

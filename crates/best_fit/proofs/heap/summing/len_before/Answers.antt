@@ -1,7 +1,6 @@
 -- The tag of a gap is before its payload, and has the length of its tile.
-use Rattle.best_fit.proofs.Common.{◌≡◌, false, Bool, IsTrue, ◌+◌, ◌-◌, ◌*◌, ◌/◌, ap, subst, sym, ◌∙◌, arith}
-use Rattle.best_fit.proofs.Common.{false≢true, bytes_of, word_at, Tile, tile_at, tile_is_read_off}
-use Rattle.best_fit.proofs.Common.{is_gap_node-GapNode, tiles_in}
+use Rattle.best_fit.proofs.Common.{◌≡◌, false, Bool, IsTrue, ◌+◌, ◌-◌, ◌*◌, ◌/◌, ap, subst, sym, ◌∙◌, arith, false≢true}
+use Rattle.best_fit.proofs.Common.{bytes_of, word_at, Tile, tile_at, tile_is_read_off, is_gap_node-GapNode, tiles_in}
 use Rattle.best_fit.proofs.gaps.Nodes.{node_at, node_len}
 use Rattle.best_fit.proofs.heap.summing.len_before.Goals as goal
 use goal.{then-node-lt-TAG_LEN-via-then-node-lt-TAG_LEN}

@@ -19,12 +19,12 @@ returns-clause-cells c =
     let w = c.args.self.now.window in let g = is_gap_node-GapNode w c.args.node c.requires in
     let low = (node_at w c.args.node g).low in
     red_cells w c.set_red.new.window c.args.node (c.args.node - 16) c.args.red g (omega arith)
-    c.set_red.ensures.tags c.set_red.ensures.frame
+    (record { tags = c.set_red.ensures.tags; frame = c.set_red.ensures.frame })
 
 pub returns-clause-keeper : goal.returns-clause-keeper
 returns-clause-keeper c =
     let w = c.args.self.now.window in let g = is_gap_node-GapNode w c.args.node c.requires in
     let low = (node_at w c.args.node g).low in
     let changed = red_changed w c.set_red.new.window c.args.node (c.args.node - 16) c.args.red g (omega arith)
-    c.set_red.ensures.tags c.set_red.ensures.frame in
+    (record { tags = c.set_red.ensures.tags; frame = c.set_red.ensures.frame }) in
     same_beside_cells c.args.self.now (record { window = c.set_red.new.window }) c.args.node g changed

@@ -9,25 +9,16 @@ use common.{keys_in, exit_in, word_at, root_of, root_in, ◌∙◌, ℕ, ◌+◌
 use common.{Bool, true, ◌∷◌, map, Tree, fork, leaf, In, [], not, false≢true, comes_before, IsKeyTree, false, List}
 use common.{arith, ◌==◌, Some, is_in, handle, roomy, ne_eqb, IsTree, others, Chains, is_key, Rising, Plain}
 use Rattle.seg_map.proofs.pairs.Lists.{without_nodes, in_from, nodes_in, Below, rising_below, rising_rest, each_both}
-use Rattle.seg_map.proofs.pairs.Lists.{pair_of, in_nodes, none_left, other_nodes, removed_all, removed_length}
-use Rattle.seg_map.proofs.pairs.Lists.{apart_all}
+use Rattle.seg_map.proofs.pairs.Lists.{pair_of, in_nodes, none_left, other_nodes, removed_all, removed_length, AtNode}
+use Rattle.seg_map.proofs.pairs.Lists.{at_node, each, not_among}
 use Rattle.seg_map.proofs.{pairs.Lists.known, pairs.Lists.removed_rising, pairs.Lookup.lent_own, pairs.Lookup.lent_tree}
 use Rattle.seg_map.proofs.pairs.SearchTree.{Laws, found_in, good, keys, other_block}
-use Rattle.seg_map.proofs.pairs.Frame.{at_node, map_stays, AtNode, beside_then, keeps_beside, relaid}
+use Rattle.seg_map.proofs.pairs.Frame.{map_stays, beside_then, keeps_beside, relaid}
 use Rattle.seg_map.proofs.pairs.NodeBlocks.{any_at, begins_behind, own_handle}
 use Rattle.seg_map.specs.Changing.{UnlinksPair, FreesAllPairs}
 use Rattle.link_tree.specs.Ways.{remove_point_of}
 use Rattle.best_fit.proofs.Laws.{released-live, others-comm, rising-weak}
 use Rattle.best_fit.specs.{Exchange.exchanged, Exchange.without_all, Heap.Deallocates}
-
--- a node of the tree that can be removed, beginning at the root or at its exit
-pub record CanUnlink {K : Type 0} (k : Plain K) (ns : List ℕ) (c : WindowState) (root start : Option ℕ) (node : ℕ) :
-    Type 0
-  where
-    pub shape : Tree
-    pub tree : IsKeyTree k ns c root shape
-    pub listed : is_in node (nodes_of shape) ≡ true
-    pub begins : IfSome start (λ n. remove_point_of (comes_before k.order (keys_in k ns c)) node shape ≡ Some n)
 
 module _ {K V : Type 0} {kp : Plain K} {vp : Plain V} (kl : Laws kp) (c : WindowState) {h at : ℕ} {root : Option ℕ}
     {ps : List (Pair K V)} (s : HoldsMap kp vp c.bytes h at ps) (is : root ≡ link_at (bytes_of c.bytes) (h + at))
@@ -38,17 +29,18 @@ module _ {K V : Type 0} {kp : Plain K} {vp : Plain V} (kl : Laws kp) (c : Window
   ns_is : lent ≡ nodes_of s.map.tree.tree
   ns_is = lent_own kl c s is refl
 
-  -- the node can be unlinked
-  pub can_unlink : (start : Option ℕ) → start ≡ exit_in kp c node s.map.tree.tree → CanUnlink kp lent c root start node
-  can_unlink start begins = record {
-    shape = s.map.tree.tree;
-    tree = lent_tree kl c s is refl;
-    listed = (λ i. is_in (sym here i) (s.map.tree.lists i)) ∙ in_nodes kp.order ps key p has;
-    begins = rw ns_is (known start (exit_in kp c node s.map.tree.tree) begins);
-  }
+  -- the node can be unlinked, beginning at the root or at its exit
+  pub can_unlink : (start : Option ℕ) → start ≡ exit_in kp c node s.map.tree.tree
+      → IsKeyTree kp lent c root s.map.tree.tree × (is_in node (nodes_of s.map.tree.tree) ≡ true) × IfSome start
+      (λ n. remove_point_of (comes_before kp.order (keys_in kp lent c)) node s.map.tree.tree ≡ Some n)
+  can_unlink start begins = (
+    lent_tree kl c s is refl,
+    (λ i. is_in (sym here i) (s.map.tree.lists i)) ∙ in_nodes kp.order ps key p has,
+    rw ns_is (known start (exit_in kp c node s.map.tree.tree) begins),
+  )
 
   -- the map without the pair
-  pub taken : {d e : WindowState} {top : Option ℕ} {n steps : ℕ} → Relinked kp lent c d root top (without node) steps
+  pub taken : {d e : WindowState} {top : Option ℕ} {n steps : ℕ} → Relinked kp lent c d root top (without node) 30 steps
       → Laws vp → n + 1 ≡ length ps → WritesMapHeader d e (h + at) top n → UnlinksPair kp vp c e h at ps key
   taken u vl count head = relaid s (lent_tree kl c s is refl) u kl vl ps s.pairs s.map.pairs (ns_is ∙ s.map.tree.lists)
       (rw ns_is (good kl c s)) head ((λ i. without (sym here i) (s.map.tree.lists i)) ∙ without_nodes kp.order
@@ -71,7 +63,7 @@ module _ {K V : Type 0} {kp : Plain K} {vp : Plain V} (kl : Laws kp) (vl : Laws 
   pub erased : ErasesPair kp vp c f h at ps p key
   erased =
       let room = roomy e h (at + 24) t.map.heap t.map.room in let begins = room.at in
-      let apart = other h (apart_all kp vp (live_of c.bytes) h ps s.pairs) in
+      let apart = other h (not_among h ps (each ps s.pairs (λ q i. i.apart))) in
       let same = other_block (live_of e.bytes) node h r.keeps room.found (λ g. apart (sym begins ∙ g)) in
       record {
         live = subst (λ l. EncodesLiveSet current f.bytes l) (λ i. released (live_is i) (sym here i)) r.live;

@@ -1,17 +1,14 @@
 -- The nodes of a map that are listed, and the pairs that are read at them.
-use Rattle.seg_map.proofs.Common.{◌≡◌, refl, sym, ap, ◌∙◌, ℕ, suc, ◌+◌, ◌*◌, ◌≤◌, Bool, List, [], ◌∷◌, length}
-use Rattle.seg_map.proofs.Common.{map}
-use Rattle.seg_map.proofs.Common.{arith, not, inl, inr, cases_Bool, Option, AllByRecursion, WindowState}
-use Rattle.seg_map.proofs.Common.{IsSearchTree, Tree, bits, nodes_of, keys_in, Pair, comes_before, pair_cells}
-use Rattle.seg_map.proofs.Common.{stands, stands_before, HoldsMap, is_passed, pair_node, Plain, nodes_of_pairs}
-use Rattle.seg_map.proofs.Common.{length-map}
+use Rattle.seg_map.proofs.Common.{◌≡◌, refl, sym, ap, ◌∙◌, ℕ, suc, ◌+◌, ◌*◌, ◌≤◌, Bool, List, [], ◌∷◌, length, map}
+use Rattle.seg_map.proofs.Common.{arith, not, inl, inr, cases_Bool, Option, AllByRecursion, WindowState, bits, nodes_of}
+use Rattle.seg_map.proofs.Common.{Pair, stands, HoldsMap, is_passed, pair_node, Plain, nodes_of_pairs, length-map}
+use Rattle.seg_map.proofs.Common.{IsTrue, bytes_of, has_room, link_at, live_of, subst}
 use Rattle.seg_map.proofs.pairs.Lists.{each}
 use Rattle.std.proofs.Common.{zero, ◌++◌, take, drop, min, length-take}
 use Rattle.std.specs.List.{filter}
 use Rattle.std.proofs.lemmas.List.{take-map}
-use Rattle.seg_map.proofs.Common.{IsTrue, bytes_of, has_room, link_at, live_of, subst}
 use Rattle.seg_map.proofs.pairs.SearchTree.{Laws}
-use Rattle.seg_map.proofs.pairs.{Frame.at_node, Lookup.opened}
+use Rattle.seg_map.proofs.pairs.{Lists.at_node, Lookup.Asked, Lookup.ahead, Lookup.opened}
 use Rattle.seg_map.specs.Searches.{OpensPairTree, IsRead, item_at}
 use Rattle.seg_map.specs.Listing.{HasNode, ListingSteps, ListsNodes, ReadsNode, pairs_past}
 use Rattle.link_tree.specs.Listing.{filled, nodes_from}
@@ -45,23 +42,16 @@ filled_first (x ∷ list) (n ∷ ns) (suc count) e = ap (λ ms. n ∷ ms) (fille
 
 module _ {K V : Type 0} {k : Plain K} {v : Plain V} {now c : WindowState} {at : Place} {own : List ℕ}
     {root : Option ℕ} (o : OpensPairTree k v now c at own root) (past : Bool) (key : K) where
-  abbrev Asked : (Tree → Type 0) → Type 0
-  Asked P = (t : Tree) → IsSearchTree (comes_before k.order (keys_in k own now))
-      (pair_cells (16 + k.SIZE) own now) root t → P t
-
-  abbrev ahead : ℕ → Bool
-  ahead = stands_before k.order (keys_in k own now) past key
-
   -- the nodes from a key on hold the pairs from that key on
   nodes_past : (ps : List (Pair K V)) (s : HoldsMap k v c.bytes at.handle at.at ps)
-      → nodes_from ahead (nodes_of s.map.tree.tree) ≡ nodes_of_pairs (pairs_past k.order past key ps)
-  nodes_past ps s = ap (nodes_from ahead) s.map.tree.lists
-      ∙ filter_mapped pair_node (λ n. not (ahead n)) (λ p. not (is_passed k.order past key p)) ps
+      → nodes_from (ahead o past key) (nodes_of s.map.tree.tree) ≡ nodes_of_pairs (pairs_past k.order past key ps)
+  nodes_past ps s = ap (nodes_from (ahead o past key)) s.map.tree.lists
+      ∙ filter_mapped pair_node (λ n. not (ahead o past key n)) (λ p. not (is_passed k.order past key p)) ps
       (each ps (o.pairs ps s) (λ p r. ap (λ x. not (stands k.order past key x)) r.key))
 
   -- the nodes that are listed
-  pub lists_nodes : (list list' : List ℕ) (count : ℕ) → Asked (λ t. list' ≡ filled list (nodes_from ahead (nodes_of t)))
-      → Asked (λ t. count ≡ min (length list) (length (nodes_from ahead (nodes_of t))))
+  pub lists_nodes : (list list' : List ℕ) (count : ℕ) → Asked o (λ t. list' ≡ filled list (nodes_from (ahead o past key) (nodes_of t)))
+      → Asked o (λ t. count ≡ min (length list) (length (nodes_from (ahead o past key) (nodes_of t))))
       → ListsNodes k v c.bytes at past key list list' count
   lists_nodes list list' count filled_by many ps s =
       let t = s.map.tree.tree in
@@ -107,8 +97,7 @@ module _ {K V : Type 0} {k : Plain K} {v : Plain V} (kl : Laws k) (vl : Laws v) 
 -- the steps of a listing, by the number of pairs
 pub listing_steps : {K V : Type 0} {k : Plain K} {v : Plain V} {now c : WindowState} {at : Place} {own : List ℕ}
     {root : Option ℕ} (o : OpensPairTree k v now c at own root) (count taken before after : ℕ)
-    → ((t : Tree) → IsSearchTree (comes_before k.order (keys_in k own now)) (pair_cells (16 + k.SIZE) own now) root t
-    → taken ≤ count + 4 * bits (length (nodes_of t) + 1)) → after ≡ before + taken
+    → Asked o (λ t. taken ≤ count + 4 * bits (length (nodes_of t) + 1)) → after ≡ before + taken
     → ListingSteps k v c.bytes at count before after
 listing_steps o count taken before after most e = λ ps s.
     let m = most s.map.tree.tree (o.tree ps s).tree in

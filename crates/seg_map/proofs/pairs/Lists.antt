@@ -5,13 +5,13 @@ use Rattle.seg_map.proofs.Common.{if◌then◌else◌, and_parts, Chains, Pair, 
 use Rattle.seg_map.proofs.Common.{length, ◌==◌, both_ways, or_left, or_right, eq-eqb, ne_eqb, is_in, without, IsStrict}
 use Rattle.seg_map.proofs.Common.{is_key, remove_pair, nodes_of_pairs, pair_node, LiveSet, eqb-true, false≢true}
 use Rattle.seg_map.proofs.Common.{or_cases, ◌⊎◌, is_ordered_with, insert_in_order, put_pair, before_key, comes_before}
-use Rattle.seg_map.proofs.Common.{Plain}
-use Rattle.seg_map.proofs.Common.{Memory}
-use Rattle.seg_map.proofs.Common.{IsPairAt, IsPairIn, IfSome, stands, stands_before, [], or_parts, false_from_ne_true}
+use Rattle.seg_map.proofs.Common.{Plain, Memory, IsPairAt, IsPairIn, IfSome, stands, stands_before, [], or_parts}
+use Rattle.seg_map.proofs.Common.{false_from_ne_true}
 use Rattle.std.proofs.lemmas.{Bool.and_from, Bool.true≢false, Bool.not-false, List.map-append}
 use Rattle.std.proofs.Common.{◌++◌, nat_eq}
 use mathlib.Core.List.{reverse-cons}
 use Rattle.link_tree.proofs.Laws.{without_none}
+use Rattle.raw_region.proofs.Facts.{AllByRecursion-append}
 
 -- a property of each element implies another of each
 pub each : {A : Type 0} {P Q : A → Type 0} (xs : List A) → AllByRecursion P xs → ((x : A) → P x → Q x)
@@ -25,16 +25,11 @@ pub each_both : {A : Type 0} {P Q R : A → Type 0} (xs : List A) → AllByRecur
 each_both [] a b f = tt
 each_both (x ∷ xs) a b f = (f x a.0 b.0, each_both xs a.1 b.1 f)
 
-all_append : {A : Type 0} (P : A → Type 0) (xs ys : List A) → AllByRecursion P xs → AllByRecursion P ys
-    → AllByRecursion P (xs ++ ys)
-all_append P [] ys a b = b
-all_append P (x ∷ xs) ys a b = (a.0, all_append P xs ys a.1 b)
-
 -- a property of each element holds for the reversed list
 pub all_reversed : {A : Type 0} (P : A → Type 0) (xs : List A) → AllByRecursion P xs → AllByRecursion P (reverse xs)
 all_reversed P [] a = tt
 all_reversed P (x ∷ xs) a = subst (AllByRecursion P) (sym (reverse-cons x xs))
-    (all_append P (reverse xs) (x ∷ []) (all_reversed P xs a.1) (a.0, tt))
+    (AllByRecursion-append P (reverse xs) (x ∷ []) (all_reversed P xs a.1) (a.0, tt))
 
 -- a list is mapped and reversed in either order
 pub map_reversed : {A B : Type 0} (f : A → B) (xs : List A) → reverse (map f xs) ≡ map f (reverse xs)
@@ -129,20 +124,28 @@ not_among n [] a = refl
 not_among n (p ∷ ps) a = ap (λ (b : Bool). b || is_in n (nodes_of_pairs ps))
     (ne_eqb n (pair_node p) (λ e. a.0 (sym e))) ∙ not_among n ps a.1
 
--- the object's block is no node
-pub apart_all : {K V : Type 0} (kp : Plain K) (vp : Plain V) (live : LiveSet) (h : ℕ) (ps : List (Pair K V))
-    → AreIn kp vp live h ps → is_in h (nodes_of_pairs ps) ≡ false
-apart_all kp vp live h ps a = not_among h ps (each ps a (λ q i. i.apart))
+-- the pair of a node
+pub record AtNode {K V : Type 0} (P : Pair K V → Type 0) (m : ℕ) : Type 0 where
+  pub pair : Pair K V
+  pub holds : P pair
+  pub at : pair_node pair ≡ m
+
+-- a property of all pairs holds at the node of one
+pub at_node : {K V : Type 0} (P : Pair K V → Type 0) (ps : List (Pair K V)) (m : ℕ) → is_in m (nodes_of_pairs ps) ≡ true
+    → AllByRecursion P ps → AtNode P m
+at_node P [] m i a = absurd (false≢true i)
+at_node P (p ∷ ps) m i a =
+    elim (or_cases _ _ i) [
+      | inl e ↦ record { pair = p; holds = a.0; at = sym (eqb-true m (pair_node p) e) }
+      | inr e ↦ at_node P ps m e a.1
+    ]
 
 -- nodes of pairs that are all in a list
 pub in_from : {K V : Type 0} (ms : List ℕ) (ps : List (Pair K V)) → AllByRecursion (λ p. is_in (pair_node p) ms ≡ true)
     ps → (m : ℕ) → is_in m (nodes_of_pairs ps) ≡ true → is_in m ms ≡ true
-in_from ms [] a m i = absurd (false≢true i)
-in_from ms (p ∷ ps) a m i =
-    elim (or_cases _ _ i) [
-      | inl e ↦ ap (λ n. is_in n ms) (eqb-true m (pair_node p) e) ∙ a.0
-      | inr e ↦ in_from ms ps a.1 m e
-    ]
+in_from {K} {V} ms ps a m i =
+    let n = at_node (λ (p : Pair K V). is_in (pair_node p) ms ≡ true) ps m i a in
+    ap (λ k. is_in k ms) (sym n.at) ∙ n.holds
 
 -- each pair's node is among the nodes
 pub nodes_in : {K V : Type 0} (ms : List ℕ) (ps : List (Pair K V)) → ((m : ℕ) → is_in m (nodes_of_pairs ps) ≡ true
@@ -411,22 +414,15 @@ pub known : (start o : Option ℕ) → start ≡ o → IfSome start (λ n. o ≡
 known None o e = tt
 known (Some n) o e = sym e
 
--- a property of the node that was found holds after the search is narrowed
-pub narrowed : (r f : Option ℕ) (P : ℕ → Type 0) → IfSome r (λ n. f ≡ Some n) → IfSome f P → IfSome r P
-narrowed None f P e h = tt
-narrowed (Some n) f P e h = let k = rw e at h in k
-
 -- ---- keys of nodes
 
 -- two ways to read keys that read the keys of the pairs agree on their nodes
 pub keys_agree : {K V : Type 0} (f g : ℕ → Option K) (ps : List (Pair K V)) → HaveKeys f ps → HaveKeys g ps → (m : ℕ)
     → is_in m (nodes_of_pairs ps) ≡ true → f m ≡ g m
-keys_agree f g [] k j m i = absurd (false≢true i)
-keys_agree f g (p ∷ ps) k j m i =
-    elim (or_cases _ _ i) [
-      | inl e ↦ let here = eqb-true m (pair_node p) e in ap f here ∙ k.0 ∙ sym (ap g here ∙ j.0)
-      | inr e ↦ keys_agree f g ps k.1 j.1 m e
-    ]
+keys_agree {K} {V} f g ps k j m i =
+    let n = at_node (λ (p : Pair K V). f (pair_node p) ≡ g (pair_node p)) ps m i
+    (each_both ps k j (λ p a b. a ∙ sym b)) in
+    subst (λ x. f x ≡ g x) n.at n.holds
 
 module _ {K : Type 0} (less : K → K → Bool) (irreflexive : IsStrict less) (transitive : Chains less) where
   -- if one of two keys is below the other, the other is not below it

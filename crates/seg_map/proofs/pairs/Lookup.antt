@@ -9,9 +9,10 @@ use Rattle.seg_map.proofs.Common.{final_pair, first_pair, is_passed, last_pair, 
 use Rattle.seg_map.proofs.Common.{nodes_of_pairs, length-map}
 use Rattle.seg_map.proofs.pairs.SearchTree.{keys, last_node, with_bytes, own, pair_parts, read_spelled, value_of, Laws}
 use Rattle.seg_map.proofs.{pairs.SearchTree.first_node, pairs.SearchTree.key_tree, pairs.Lists.each_both}
-use Rattle.seg_map.proofs.{pairs.Frame.AtNode}
-use Rattle.seg_map.proofs.pairs.Lists.{all_reversed, each, last_mapped, by_key, pair_by_key, HaveKeys, narrowed}
+use Rattle.seg_map.proofs.pairs.Lists.{AtNode, all_reversed, each, last_mapped, by_key, pair_by_key, HaveKeys}
 use Rattle.std.specs.Prelude.{option_and_then}
+use Rattle.std.proofs.lemmas.Option.{IfSome_then}
+use Rattle.best_fit.proofs.Laws.{IfSome_is}
 use Rattle.link_tree.specs.{Searching.path_length, Ways.remove_point_of}
 use Rattle.seg_map.specs.Searches.{path_in, reading_steps, FindsExit, OpensPairTree, IsRead, LooksFor, LooksUp, item_at}
 use Rattle.seg_map.specs.Searches.{EndsPathOf, EndsSearch}
@@ -86,11 +87,11 @@ last_good P o (x ∷ xs) h a = last_good P (Some x) xs a.0 a.1
 
 module _ {K V : Type 0} {k : Plain K} {v : Plain V} {now c : WindowState} {at : Place} {own : List ℕ}
     {root : Option ℕ} (o : OpensPairTree k v now c at own root) where
-  abbrev Asked : (Tree → Type 0) → Type 0
+  abbrev pub Asked : (Tree → Type 0) → Type 0
   Asked P = (t : Tree) → IsSearchTree (comes_before k.order (keys_in k own now))
       (pair_cells (16 + k.SIZE) own now) root t → P t
 
-  abbrev ahead : Bool → K → ℕ → Bool
+  abbrev pub ahead : Bool → K → ℕ → Bool
   ahead past key = stands_before k.order (keys_in k own now) past key
 
   keys_are : (ps : List (Pair K V)) (s : HoldsMap k v c.bytes at.handle at.at ps)
@@ -182,10 +183,10 @@ module _ {K V : Type 0} {k : Plain K} {v : Plain V} {now c : WindowState} {at : 
   pub exit_is : (r found start : Option ℕ) → IfSome r (λ n. found ≡ Some n)
       → Asked (λ t. IfSome found (λ n. start ≡ remove_point_of (comes_before k.order (keys_in k own now)) n t))
       → FindsExit k v c at r start
-  exit_is r found start same exit = λ ps s. narrowed r found (λ n. start ≡ exit_in k c n s.map.tree.tree) same
-      (subst (λ (ks : ℕ → Option K).
+  exit_is r found start same exit = λ ps s. IfSome_then r same (λ n is.
+      IfSome_is (λ n. start ≡ exit_in k c n s.map.tree.tree) found n is (subst (λ (ks : ℕ → Option K).
       IfSome found (λ n. start ≡ remove_point_of (comes_before k.order ks) n s.map.tree.tree))
-      (keys_are ps s) (exit s.map.tree.tree (o.tree ps s).tree))
+      (keys_are ps s) (exit s.map.tree.tree (o.tree ps s).tree)))
 
 -- ---- reading the pair
 
@@ -235,12 +236,8 @@ module _ {K V : Type 0} {k : Plain K} {v : Plain V} {c : WindowState} {at : Plac
   -- the node that is found has room for a key
   pub sought_room : IsSomeMap k v c.bytes at.handle at.at
       → IfSome found (λ n. IsTrue (has_room (live_of c.bytes) n (16 + k.SIZE)))
-  sought_room s = less found (found_room s)
-    where
-      less : (o : Option ℕ) → IfSome o (λ n. IsTrue (has_room (live_of c.bytes) n (16 + k.SIZE + v.SIZE)))
-          → IfSome o (λ n. IsTrue (has_room (live_of c.bytes) n (16 + k.SIZE)))
-      less None r = tt
-      less (Some n) r = room-less (live_of c.bytes) n (16 + k.SIZE + v.SIZE) (16 + k.SIZE) (omega arith) r
+  sought_room s = IfSome_then found (found_room s)
+      (λ n r. room-less (live_of c.bytes) n (16 + k.SIZE + v.SIZE) (16 + k.SIZE) (omega arith) r)
 
   steps_read : (before after : ℕ) → after ≡ before + taken + reading_steps found → (ps : List (Pair K V))
       (s : HoldsMap k v c.bytes at.handle at.at ps) → after ≡ before + path s.map.tree.tree + reading_steps (pair ps)

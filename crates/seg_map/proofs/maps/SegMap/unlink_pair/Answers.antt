@@ -1,7 +1,7 @@
 -- The node is unlinked from the tree, the three words are written, and its block is freed.
-use Rattle.seg_map.proofs.{refl, ap, ◌-◌, None, arith, laws, can_unlink, erased, few_steps, gone_live}
-use Rattle.seg_map.proofs.{kept_proper, kept_room, lent_tree, live_laid, own_nodes, relinked, removed_length, taken}
-use Rattle.seg_map.proofs.{rules, top_whole, Relinked, maps.SegMap.unlink_pair.Goals.After-add}
+use Rattle.seg_map.proofs.{refl, ap, ◌-◌, None, arith, laws, can_unlink, erased, few_steps, gone_live, kept_proper}
+use Rattle.seg_map.proofs.{kept_room, lent_tree, live_laid, own_nodes, relinked, removed_length, taken, rules}
+use Rattle.seg_map.proofs.{top_whole, Relinked, maps.SegMap.unlink_pair.Goals.After-add}
 use Rattle.link_tree.specs.Nodes.{without}
 use Rattle.best_fit.specs.Heap.{heap_touches}
 use Rattle.seg_map.proofs.maps.SegMap.unlink_pair.Goals as goal
@@ -11,12 +11,12 @@ remove_at-changed-requires g c =
     let q = c.requires in let lent = c.lend-pairs.ensures in
     let r = can_unlink (laws g.met.K.Plain) c.args.heap.now q.map c.requires.leads q.key q.found q.is
     c.args.trace.now.start q.begins in
-    rw (lent.ownership, lent.heap) (record { root = r.tree.leads; tree = (r.shape, r.tree.tree, r.listed, r.begins) })
+    rw (lent.ownership, lent.heap) (record { root = r.0.leads; tree = (q.map.map.tree.tree, r.0.tree, r.1, r.2) })
 
 -- a change of the nodes is a change of the heap
 cut : (g : _) (c : After-add g) → Relinked g.K.Plain (own_nodes c.args.heap.now.bytes c.args.trace.now.root None)
     c.args.heap.now c.heap-1.given.0 c.args.trace.now.root c.remove_at-changed.result.root
-    (without c.args.node) (c.add.new.self - c.args.steps.now)
+    (without c.args.node) 30 (c.add.new.self - c.args.steps.now)
 cut g c =
     let f = c.remove_at-changed.ensures in let lent = c.lend-pairs in let r = c.remove_at-changed.result in
     rw (← lent.ensures.ownership, ← lent.ensures.heap)

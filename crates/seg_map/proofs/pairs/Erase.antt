@@ -222,18 +222,14 @@ module _ {K V : Type 0} {k : Plain K} {v : Plain V} (kl : Laws k) {old now : Win
     apart x o f = both_ways _ (off x o) (ap (λ n. is_in n (nodes_of_pairs g.pairs)) f
         ∙ in_nodes k.order g.pairs key p has)
 
-    fewer_nodes : (m : ℕ) → is_in m (nodes_of_pairs (remove_pair k.order g.pairs key)) ≡ true
-        → is_in m (nodes_of_pairs g.pairs) ≡ true
-    fewer_nodes = in_from (nodes_of_pairs g.pairs) (remove_pair k.order g.pairs key)
-        (removed_all k.order (λ q. is_in (pair_node q) (nodes_of_pairs g.pairs) ≡ true) g.pairs key
-        (nodes_in (nodes_of_pairs g.pairs) g.pairs (λ m i. i)))
-
     -- one more pair is removed
     pub going_on : IsGoing k v old new h at ps
     going_on = record {
       pairs = remove_pair k.order g.pairs key;
       holds = e.map;
-      among = λ m i. g.among m (fewer_nodes m i);
+      among = λ m i. g.among m (in_from (nodes_of_pairs g.pairs) (remove_pair k.order g.pairs key) (removed_all k.order
+          (λ q. is_in (pair_node q) (nodes_of_pairs g.pairs) ≡ true) g.pairs key
+          (nodes_in (nodes_of_pairs g.pairs) g.pairs (λ m i. i))) m i);
       beside = beside_then g.beside e.beside (λ x f o. (g.there x f o, off x o));
       there = λ x f o. rw live_new (found-less (handle x) (handle p.node) x (live_of now.bytes).extents (apart x o)
           (g.there x f o));

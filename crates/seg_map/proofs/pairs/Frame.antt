@@ -1,20 +1,19 @@
 -- The parts of a map that stay, and the blocks outside it; the map after its tree changes and its three words are
 -- written.
 use Rattle.seg_map.proofs.Common as common
-use common.{Some, extent_at, is_proper, both_ways, false≢true, holds_same, cell_stays, length-map}
-use common.{SameSurroundings-trans, IsTrue, AllByRecursion, PairNode-is_pair_node, is_pair_node-PairNode}
-use common.{SameBytes-trans, KeepsOutsideMap, has_room, node_place, pair_cells, SameBlockExcept, changed-live, ◌≡◌}
-use common.{arith, is_in, KeepsBlocks, subst, Option, leads, Plain, Memory, IsHeap, others, IfSome, refl, bytes_of}
-use common.{is_other, PairNode, nodes_of, Relinked, laid-heap, ap, ◌∙◌, ◌+◌, ◌||◌, List, ◌==◌, IsGoodNodeSet, Tree}
-use common.{bits, SameBytes, Pair, leaf, fork, roomy, ℕ, ◌-◌, ◌%◌, ◌<◌, ◌≤◌, ◌⊎◌, inl, inr, not, ◌∷◌, WindowState, In}
-use common.{sym, ◌*◌, ◌≢◌, [], true, or_left, word_at, live_of, is_kept, kept_of, keys_in, current, LiveSet, false}
-use common.{HasBytesAt-same, cells_of, IsPairAt, HoldsMap, IsPairIn, cases_eq, cells_at, WritesMapHeader, ◌&&◌, nat_lt}
-use common.{nat_le, eq-eqb, le-leb, lt-ltb, Extent, handle, end_of, length, EncodesLiveSet, or_right, SameBlock}
-use common.{IsKeyTree, SameBytes-word, SameBytes-link, is_rising, pair_node, tree_same, is_link_byte, IsSearchTree}
-use common.{comes_before, is_pair_node, nodes_of_pairs, changed-keeps}
+use common.{Some, extent_at, both_ways, false≢true, holds_same, cell_stays, length-map, SameSurroundings-trans, IsTrue}
+use common.{AllByRecursion, PairNode-is_pair_node, is_pair_node-PairNode, SameBytes-trans, KeepsOutsideMap, has_room}
+use common.{node_place, pair_cells, SameBlockExcept, changed-live, ◌≡◌, arith, is_in, KeepsBlocks, subst, Option, leads}
+use common.{Plain, Memory, IsHeap, others, IfSome, refl, bytes_of, is_other, PairNode, nodes_of, Relinked, laid-heap}
+use common.{ap, ◌∙◌, ◌+◌, ◌||◌, List, ◌==◌, IsGoodNodeSet, Tree, bits, SameBytes, Pair, leaf, fork, roomy, ℕ, ◌-◌, ◌%◌}
+use common.{◌<◌, ◌≤◌, ◌⊎◌, inl, inr, not, ◌∷◌, WindowState, In, sym, ◌*◌, ◌≢◌, [], true, or_left, word_at, live_of}
+use common.{is_kept, kept_of, keys_in, current, LiveSet, false, HasBytesAt-same, cells_of, IsPairAt, HoldsMap, IsPairIn}
+use common.{cases_eq, cells_at, WritesMapHeader, ◌&&◌, nat_lt, nat_le, eq-eqb, le-leb, lt-ltb, Extent, handle, end_of}
+use common.{length, EncodesLiveSet, or_right, SameBlock, IsKeyTree, SameBytes-word, SameBytes-link, is_rising}
+use common.{pair_node, tree_same, is_link_byte, IsSearchTree, comes_before, is_pair_node, nodes_of_pairs, changed-keeps}
 use Rattle.seg_map.proofs.pairs.NodeBlocks.{any_at, block_apart, all_in, target_whole}
 use Rattle.seg_map.proofs.pairs.SearchTree.{Laws, pair_parts, found_in, other_block}
-use Rattle.seg_map.proofs.pairs.Lists.{at_node, each, each_both, AreAt, AreIn, removed_length, in_from, nodes_in}
+use Rattle.seg_map.proofs.pairs.Lists.{at_node, each, each_both, AreAt, AreIn, in_from, nodes_in}
 use Rattle.std.proofs.lemmas.Bool.{Decides.nat_tests}
 use Rattle.seg_map.specs.{PairNodes.PairTreeFrame, PairNodes.lies_in_block, Changing.RewritesNodes}
 use Rattle.best_fit.proofs.Laws.{but-trans, written-but}
@@ -25,16 +24,6 @@ use Rattle.raw_region.proofs.Facts.{bit-same}
 pub live_stays : (c d : WindowState) (ns ms : List ℕ) → kept_of ms d ≡ kept_of ns c → live_of d.bytes ≡ live_of c.bytes
 unfolding kept_of
 live_stays c d ns ms e = ap (λ (k : PairTreeFrame). k.live) e
-
--- the live set is proper still
-pub kept_proper : (c d : WindowState) (ns : List ℕ) → kept_of ns d ≡ kept_of ns c → IsTrue (is_proper (live_of c.bytes))
-    → IsTrue (is_proper (live_of d.bytes))
-kept_proper c d ns e proper = rw (live_stays c d ns ns e) proper
-
--- a block has room still
-pub kept_room : (c d : WindowState) (ns : List ℕ) (h n : ℕ) → kept_of ns d ≡ kept_of ns c
-    → IsTrue (has_room (live_of c.bytes) h n) → IsTrue (has_room (live_of d.bytes) h n)
-kept_room c d ns h n e room = rw (live_stays c d ns ns e) room
 
 -- a byte outside the links of each node is in no link
 no_link : (ns : List ℕ) (k : ℕ) → ((n : ℕ) → is_in n ns ≡ true → (k < n) ⊎ (n + 16 ≤ k)) → is_link_byte ns k ≡ false
@@ -252,20 +241,19 @@ module _ {K V : Type 0} {kp : Plain K} {vp : Plain V} (kl : Laws kp) (vl : Laws 
 -- a call of the tree changes no block, and neither does writing the three words
 module _ {K : Type 0} {kp : Plain K} {c d : WindowState} {ns : List ℕ} {root top : Option ℕ} {becomes : List ℕ → List ℕ}
     {factor steps : ℕ} (u : Relinked kp ns c d root top becomes factor steps) where
+  -- the live set is as it was
   pub live_left : live_of d.bytes ≡ live_of c.bytes
   live_left = live_stays c d ns ns u.kept
 
-  -- the live set is as before
+  -- and still is when the words are written
   pub live_laid : {e : WindowState} {at n : ℕ} → WritesMapHeader d e at top n → live_of e.bytes ≡ live_of c.bytes
   live_laid head = changed-live _ _ _ _ _ head.change ∙ live_left
-
--- rules for a map with one pair less: its length, and its blocks, which stay when the tree changes
-pub ruleset trees = (kept_proper, kept_room, removed_length)
 
 -- a call of the tree of a map
 module _ {K V : Type 0} {kp : Plain K} {vp : Plain V} {c d : WindowState} {h at : ℕ} {ps : List (Pair K V)}
     (s : HoldsMap kp vp c.bytes h at ps) {ns : List ℕ} {root top : Option ℕ} (tree : IsKeyTree kp ns c root
-    s.map.tree.tree) {becomes : List ℕ → List ℕ} {factor steps : ℕ} (u : Relinked kp ns c d root top becomes factor steps)
+    s.map.tree.tree) {becomes : List ℕ → List ℕ} {factor steps : ℕ}
+    (u : Relinked kp ns c d root top becomes factor steps)
   where
     -- the root is at a multiple of 16
     pub top_whole : IfSome top (λ t. t % 16 ≡ 0)
@@ -318,7 +306,8 @@ module _ {K V : Type 0} {kp : Plain K} {vp : Plain V} {c d : WindowState} {h at 
           → is_pair_node (16 + kp.SIZE) ns d m ≡ true
       node_d leaf k m i j = absurd (false≢true i)
       node_d (fork red left x right) k m i j =
-          let r = subst (λ (o : Option ℕ). leads (is_pair_node (16 + kp.SIZE) ns d) o ≡ true) k.tree.tree.root k.leads in
+          let r = subst (λ (o : Option ℕ). leads (is_pair_node (16 + kp.SIZE) ns d) o ≡ true) k.tree.tree.root
+          k.leads in
           PairNode-is_pair_node (16 + kp.SIZE) ns d m
           (record { good = (is_pair_node-PairNode (16 + kp.SIZE) ns d x r).good; listed = j })
 

@@ -50,7 +50,8 @@ module _ {K V : Type 0} {k : Plain K} {v : Plain V} {now c : WindowState} {at : 
       (each ps (o.pairs ps s) (λ p r. ap (λ x. not (stands k.order past key x)) r.key))
 
   -- the nodes that are listed
-  pub lists_nodes : (list list' : List ℕ) (count : ℕ) → Asked o (λ t. list' ≡ filled list (nodes_from (ahead o past key) (nodes_of t)))
+  pub lists_nodes : (list list' : List ℕ) (count : ℕ)
+      → Asked o (λ t. list' ≡ filled list (nodes_from (ahead o past key) (nodes_of t)))
       → Asked o (λ t. count ≡ min (length list) (length (nodes_from (ahead o past key) (nodes_of t))))
       → ListsNodes k v c.bytes at past key list list' count
   lists_nodes list list' count filled_by many ps s =

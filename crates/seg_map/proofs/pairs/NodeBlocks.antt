@@ -307,7 +307,7 @@ module _ {K : Type 0} (k : Plain K) {ns : List ℕ} {c : WindowState} {n : ℕ} 
   set : (f : Cell → Cell) {from : ℕ} → SameBytesExcept (bytes_of c.bytes) (bytes_of d.bytes) from 8 → n ≤ from + 8
       → from + 8 ≤ n + 16 → SameSurroundings c d → EncodesLiveSet current d.bytes (live_of c.bytes)
       → cells_of (bytes_of d.bytes) n ≡ f (cells_of (bytes_of c.bytes) n) → links_among (bytes_of d.bytes) ns n ≡ true
-      → IsSet k ns c d (λ (m : ℕ). if m == n then f (pair_cells (16 + k.SIZE) ns c m) else pair_cells (16 + k.SIZE) ns c m)
+      → IsSet k ns c d (λ (m : ℕ). let was = pair_cells (16 + k.SIZE) ns c m in if m == n then f was else was)
   set f rest low high place live own links =
       let change = field_changed c d g rest (omega arith) low high place live links in
       let keys = keys_stay (value_in k.reading k.is_value k.spelling) k.SIZE g change in

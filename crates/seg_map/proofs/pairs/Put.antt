@@ -365,7 +365,8 @@ module _ {K V : Type 0} {kp : Plain K} {vp : Plain V} (c : WindowState) {h at : 
         → handle q.node ≢ handle p.node
     other_node q w o e =
         let found = pair_of kp.order Was ps key p has were in
-        let is : q.key ≡ key = same_Some q.key p.key (sym w.key_is ∙ ap (keys_in kp (nodes_of s.map.tree.tree) c) e ∙ found.0.key_is) ∙ sym same_key_is in
+        let is : q.key ≡ key = same_Some q.key p.key (sym w.key_is ∙ ap (keys_in kp (nodes_of s.map.tree.tree) c) e
+        ∙ found.0.key_is) ∙ sym same_key_is in
         elim o [
           | inl l ↦ both_ways _ (ap (kp.order key) is ∙ kl.irreflexive key) l
           | inr l ↦ both_ways _ (ap (λ k. kp.order k key) is ∙ kl.irreflexive key) l

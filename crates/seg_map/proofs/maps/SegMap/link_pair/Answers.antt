@@ -1,7 +1,7 @@
 -- The node is linked into the tree, and the three words are written.
-use Rattle.seg_map.proofs.{sym, ap, ◌∙◌, ◌+◌, ◌-◌, Some, arith, bits, laws, can_link, few_steps, kept_proper, kept_room}
-use Rattle.seg_map.proofs.{own_nodes, planted, planted_tree, relinked, rules, top_whole, Relinked}
-use Rattle.seg_map.proofs.{pairs.SearchTree.few_in_map, maps.SegMap.link_pair.Goals.After-add}
+use Rattle.seg_map.proofs.{subst, is_proper, has_room, live_left, sym, ap, ◌∙◌, ◌+◌, ◌-◌, Some, arith, bits, laws}
+use Rattle.seg_map.proofs.{can_link, few_steps, IsTrue, own_nodes, planted, planted_tree, relinked, rules, top_whole}
+use Rattle.seg_map.proofs.{Relinked, pairs.SearchTree.few_in_map, maps.SegMap.link_pair.Goals.After-add}
 use Rattle.link_tree.specs.Nodes.{insert_in_order}
 use Rattle.seg_map.specs.{Linking.keys_in, PairNodes.comes_before}
 use Rattle.seg_map.proofs.maps.SegMap.link_pair.Goals as goal
@@ -36,8 +36,9 @@ write_map_header-requires g c =
     let h = c.requires.there in let u = entered g (goal.at.write_map_header-requires g c).After-add in
     record {
       aligned = h.map.aligned;
-      proper = kept_proper _ _ _ u.kept h.map.heap.proper;
-      room = kept_room _ _ _ _ _ u.kept h.map.room;
+      proper = subst (λ l. IsTrue (is_proper l)) (sym (live_left u)) h.map.heap.proper;
+      room = subst (λ l. IsTrue (has_room l c.args.self.place.handle (c.args.self.place.at + 24))) (sym (live_left u))
+          h.map.room;
       root = top_whole h.map
           (planted_tree (laws g.met.K.Plain) c.args.heap.now h.map c.requires.leads h.loose h.is) u;
     }

@@ -1,7 +1,7 @@
 -- The node is unlinked from the tree, the three words are written, and its block is freed.
-use Rattle.seg_map.proofs.{refl, ap, ◌-◌, None, arith, laws, can_unlink, erased, few_steps, gone_live, kept_proper}
-use Rattle.seg_map.proofs.{kept_room, lent_tree, live_laid, own_nodes, relinked, removed_length, taken, rules}
-use Rattle.seg_map.proofs.{top_whole, Relinked, maps.SegMap.unlink_pair.Goals.After-add}
+use Rattle.seg_map.proofs.{subst, sym, ◌+◌, is_proper, has_room, live_left, refl, ap, ◌-◌, None, arith, laws}
+use Rattle.seg_map.proofs.{can_unlink, erased, few_steps, gone_live, IsTrue, lent_tree, live_laid, own_nodes, relinked}
+use Rattle.seg_map.proofs.{removed_length, taken, rules, top_whole, Relinked, maps.SegMap.unlink_pair.Goals.After-add}
 use Rattle.link_tree.specs.Nodes.{without}
 use Rattle.best_fit.specs.Heap.{heap_touches}
 use Rattle.seg_map.proofs.maps.SegMap.unlink_pair.Goals as goal
@@ -28,8 +28,9 @@ write_map_header-requires g c =
     let r = c.requires.map in let u = cut g (goal.at.write_map_header-requires g c).After-add in
     record {
       aligned = r.aligned;
-      proper = kept_proper _ _ _ u.kept r.heap.proper;
-      room = kept_room _ _ _ _ _ u.kept r.room;
+      proper = subst (λ l. IsTrue (is_proper l)) (sym (live_left u)) r.heap.proper;
+      room = subst (λ l. IsTrue (has_room l c.args.self.place.handle (c.args.self.place.at + 24))) (sym (live_left u))
+          r.room;
       root = top_whole r (lent_tree (laws g.met.K.Plain) c.args.heap.now r c.requires.leads refl) u;
     }
 

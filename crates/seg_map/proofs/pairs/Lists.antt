@@ -1,14 +1,14 @@
 -- Lists of pairs: searches, puts and removals, their nodes and their keys.
-use Rattle.seg_map.proofs.Common.{◌≡◌, refl, sym, ap, subst, ◌∙◌, inl, inr, Bool, List, ◌∷◌, map, reverse, Option, Some}
-use Rattle.seg_map.proofs.Common.{find, option_map, AllByRecursion, last_or, cases_Bool, true, false, ◌||◌, not, None}
-use Rattle.seg_map.proofs.Common.{if◌then◌else◌, and_parts, Chains, Pair, is_rising, pair_at, first_pair, ℕ, suc, ◌≢◌}
-use Rattle.seg_map.proofs.Common.{length, ◌==◌, both_ways, or_left, or_right, eq-eqb, ne_eqb, is_in, without, IsStrict}
-use Rattle.seg_map.proofs.Common.{is_key, remove_pair, nodes_of_pairs, pair_node, LiveSet, eqb-true, false≢true}
-use Rattle.seg_map.proofs.Common.{or_cases, ◌⊎◌, is_ordered_with, insert_in_order, put_pair, before_key, comes_before}
-use Rattle.seg_map.proofs.Common.{Plain, Memory, IsPairAt, IsPairIn, IfSome, stands, stands_before, [], or_parts}
-use Rattle.seg_map.proofs.Common.{false_from_ne_true}
-use Rattle.std.proofs.lemmas.{Bool.and_from, Bool.true≢false, Bool.not-false, List.map-append}
-use Rattle.std.proofs.Common.{◌++◌, nat_eq}
+use Rattle.seg_map.proofs.Common.{arith, ◌≡◌, refl, sym, ap, subst, ◌∙◌, inl, inr, Bool, List, ◌∷◌, map, reverse}
+use Rattle.seg_map.proofs.Common.{Option, Some, find, option_map, AllByRecursion, last_or, cases_Bool, true, false}
+use Rattle.seg_map.proofs.Common.{◌||◌, not, None, if◌then◌else◌, and_parts, Chains, Pair, is_rising, pair_at}
+use Rattle.seg_map.proofs.Common.{first_pair, ℕ, suc, ◌≢◌, length, ◌==◌, both_ways, or_left, or_right, eq-eqb, ne_eqb}
+use Rattle.seg_map.proofs.Common.{is_in, without, IsStrict, is_key, remove_pair, nodes_of_pairs, pair_node, LiveSet}
+use Rattle.seg_map.proofs.Common.{eqb-true, false≢true, or_cases, ◌⊎◌, is_ordered_with, insert_in_order, put_pair}
+use Rattle.seg_map.proofs.Common.{before_key, comes_before, Plain, Memory, IsPairAt, IsPairIn, IfSome, stands}
+use Rattle.seg_map.proofs.Common.{stands_before, [], or_parts}
+use Rattle.std.proofs.lemmas.{Bool.and_from, Bool.not-false, List.map-append}
+use Rattle.std.proofs.Common.{◌++◌}
 use mathlib.Core.List.{reverse-cons}
 use Rattle.link_tree.proofs.Laws.{without_none}
 use Rattle.raw_region.proofs.Facts.{AllByRecursion-append}
@@ -43,11 +43,7 @@ pub find_mapped : {A B : Type 0} (f : A → B) (test : B → Bool) (test' : A �
     → AllByRecursion (λ x. test (f x) ≡ test' x) xs → find test (map f xs) ≡ option_map f (find test' xs)
 find_mapped f test test' [] a = refl
 find_mapped f test test' (x ∷ xs) a =
-    let rest = find_mapped f test test' xs a.1 in
-    elim (cases_Bool (test' x)) [
-      | inl e ↦ rw (a.0 ∙ e, e) refl
-      | inr e ↦ rw (a.0 ∙ e, e) rest
-    ]
+    let rest = find_mapped f test test' xs a.1 in let same = a.0 in grind arith
 
 -- the last of a mapped list is the mapped last
 pub last_mapped : {A B : Type 0} (f : A → B) (o : Option A) (xs : List A)
@@ -92,22 +88,14 @@ module _ {K V : Type 0} (less : K → K → Bool) (on : Chains less) where
       → pair_at less ps key ≡ by_key less key (first_pair less false key ps)
   pair_by_key key [] r = refl
   pair_by_key key (q ∷ qs) r =
-      let rest = pair_by_key key qs (rising_rest q qs r) in
-      elim (cases_Bool (less q.key key)) [
-        | inl f ↦ elim (cases_Bool (less key q.key)) [ inl y ↦ rw (f, y) rest | inr n ↦ rw (f, n) rest ]
-        | inr t ↦ elim (cases_Bool (less key q.key)) [
-          | inl y ↦ rw (t, y) (none_above key q qs r y)
-          | inr n ↦ rw (t, n) refl
-        ]
-      ]
+      let rest = pair_by_key key qs (rising_rest q qs r) in let none = none_above key q qs r in grind arith
 
 -- ---- removing a node
 
 -- a removed node is no longer in the list
 pub none_left : (n : ℕ) (ns : List ℕ) → is_in n (without n ns) ≡ false
 none_left n [] = refl
-none_left n (m ∷ ms) =
-    elim (cases_Bool (nat_eq n m)) [ inl t ↦ rw t (none_left n ms) | inr f ↦ rw (f, f) (none_left n ms) ]
+none_left n (m ∷ ms) = let rest = none_left n ms in grind arith
 
 -- pairs whose nodes are others
 pub other_nodes : {K V : Type 0} (n : ℕ) (ps : List (Pair K V)) → is_in n (nodes_of_pairs ps) ≡ false
@@ -180,11 +168,7 @@ module _ {K V : Type 0} (less : K → K → Bool) where
   pub removed_length : (ps : List (Pair K V)) (key : K) (p : Pair K V) → pair_at less ps key ≡ Some p
       → length ps ≡ suc (length (remove_pair less ps key))
   removed_length [] key p e = absurd (cc)
-  removed_length (q ∷ qs) key p e =
-      elim (cases_Bool (is_key less key q)) [
-        | inl y ↦ rw y refl
-        | inr z ↦ rw z (ap suc (removed_length qs key p (rw z at e)))
-      ]
+  removed_length (q ∷ qs) key p e = let rest = removed_length qs key p in grind arith
 
   -- ---- rising
 
@@ -299,11 +283,7 @@ module _ {K V : Type 0} (less : K → K → Bool) where
       → length (put_pair less p ps) ≡ suc (length ps)
   put_length p [] e = refl
   put_length p (q ∷ qs) e =
-      let two = absent_here p.key q qs e in
-      elim (cases_Bool (less p.key q.key)) [
-        | inl y ↦ rw y refl
-        | inr n ↦ rw (n, either_one _ _ two.0 n) (ap suc (put_length p qs two.1))
-      ]
+      let two = absent_here p.key q qs e in let one = two.0 in let rest = put_length p qs two.1 in grind arith
 
   -- keys still rise after a pair is put
   pub put_rising : Chains less → (p : Pair K V) (ps : List (Pair K V))
@@ -352,11 +332,7 @@ module _ {K V : Type 0} (less : K → K → Bool) where
     -- the pair with the key is this one or comes after it
     later : (q : Pair K V) (qs : List (Pair K V)) → is_rising less (q ∷ qs) ≡ true
         → pair_at less (q ∷ qs) p'.key ≡ Some p → less p'.key q.key ≡ false
-    later q qs r e =
-        elim (cases_Bool (less p'.key q.key)) [
-          | inl y ↦ let f = rw y at e in let g = none_above less on p'.key q qs r y in absurd (cc)
-          | inr n ↦ n
-        ]
+    later q qs r e = let none = none_above less on p'.key q qs r in grind arith
 
     module _ (P Q : Pair K V → Type 0) (step : (q : Pair K V) → P q
         → (less p'.key q.key ≡ true) ⊎ (less q.key p'.key ≡ true) → Q q) (own : Q p') where
@@ -427,11 +403,7 @@ keys_agree {K} {V} f g ps k j m i =
 module _ {K : Type 0} (less : K → K → Bool) (irreflexive : IsStrict less) (transitive : Chains less) where
   -- if one of two keys is below the other, the other is not below it
   one_side : (x y : K) → not (less x y || less y x) ≡ false → less y x ≡ not (less x y)
-  one_side x y e =
-      elim (cases_Bool (less x y)) [
-        | inl a ↦ rw a (false_from_ne_true (less y x) (λ b. true≢false (sym (transitive x y x a b) ∙ irreflexive x)))
-        | inr a ↦ rw a (either_one _ _ e a)
-      ]
+  one_side x y e = let both = transitive x y x in let not_one = irreflexive x in grind arith
 
   -- the nodes that precede a key are the nodes that its node does not precede
   pub beside : {V : Type 0} (keys : ℕ → Option K) (p : Pair K V) → keys (pair_node p) ≡ Some p.key

@@ -7,7 +7,7 @@ use Rattle.seg_map.proofs.Common.{IsSearchTree, Tree, bits, nodes_of, first_not_
 use Rattle.seg_map.proofs.Common.{has_room, live_of, found-room, room-less, IsKeyTree, keys_in, Pair, IsPairAt, pair_at}
 use Rattle.seg_map.proofs.Common.{Chains, comes_before, own_nodes, pair_cells, stands_before, HoldsMap, IsPairIn}
 use Rattle.seg_map.proofs.Common.{final_pair, first_pair, is_passed, last_pair, pair_node, entry_in, exit_in, Plain, []}
-use Rattle.seg_map.proofs.Common.{nodes_of_pairs, length-map, suc, map, inl, inr, cases_Bool, stands}
+use Rattle.seg_map.proofs.Common.{nodes_of_pairs, length-map, suc, map, stands}
 use Rattle.seg_map.proofs.pairs.SearchTree.{keys, last_node, with_bytes, own, pair_parts, read_spelled, value_of, Laws}
 use Rattle.seg_map.proofs.{pairs.SearchTree.first_node, pairs.SearchTree.key_tree, pairs.Lists.each_both}
 use Rattle.seg_map.proofs.pairs.Lists.{AtNode, all_reversed, each, last_mapped, by_key, pair_by_key, HaveKeys, at_node}
@@ -327,11 +327,7 @@ filter_mapped : {A B : Type 0} (f : A → B) (test : B → Bool) (test' : A → 
     → AllByRecursion (λ x. test (f x) ≡ test' x) xs → filter test (map f xs) ≡ map f (filter test' xs)
 filter_mapped f test test' [] a = refl
 filter_mapped f test test' (x ∷ xs) a =
-    let rest = filter_mapped f test test' xs a.1 in
-    elim (cases_Bool (test' x)) [
-      | inl e ↦ rw (a.0 ∙ e, e) (ap (λ ys. f x ∷ ys) rest)
-      | inr e ↦ rw (a.0 ∙ e, e) rest
-    ]
+    let rest = filter_mapped f test test' xs a.1 in let same = a.0 in grind arith
 
 -- a list that is filled, by the number of places that are
 filled_first : (list ns : List ℕ) (count : ℕ) → count ≡ min (length list) (length ns)

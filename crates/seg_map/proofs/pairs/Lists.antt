@@ -317,14 +317,10 @@ module _ {K V : Type 0} (less : K → K → Bool) where
         ≡ nodes_of_pairs (put_pair less p ps)
     put_nodes [] k e = refl
     put_nodes (q ∷ qs) k e =
-        let two = absent_here p.key q qs e in
+        let two = absent_here p.key q qs e in let one = two.0 in let rest = put_nodes qs k.1 two.1 in
         let same : comes_before less keys (pair_node p) (pair_node q) ≡ less p.key q.key = λ i.
         before_key less (own i) (k.0 i) in
-        elim (cases_Bool (less p.key q.key)) [
-          | inl y ↦ rw (same ∙ y, y) refl
-          | inr n ↦ rw (same ∙ n, n, either_one _ _ two.0 n)
-              (ap (λ (ms : List ℕ). pair_node q ∷ ms) (put_nodes qs k.1 two.1))
-        ]
+        grind arith
 
   -- ---- a pair in the place of another
 
@@ -357,14 +353,7 @@ module _ {K V : Type 0} (less : K → K → Bool) where
         → pair_at less ps p'.key ≡ Some p → nodes_of_pairs (put_pair less p' ps) ≡ nodes_of_pairs ps
     replaced_nodes at [] r e = absurd (cc)
     replaced_nodes at (q ∷ qs) r e =
-        let n = later q qs r e in
-        elim (cases_Bool (less q.key p'.key)) [
-          | inl y ↦ rw (n, y) (ap (λ (ms : List ℕ). pair_node q ∷ ms)
-              (replaced_nodes at qs (rising_rest less on q qs r) (rw (n, y) at e)))
-          | inr z ↦
-              let is : p ≡ q = cc in
-              rw (n, z) (ap (λ (m : ℕ). m ∷ nodes_of_pairs qs) (at ∙ ap pair_node is))
-        ]
+        let n = later q qs r e in let rest = replaced_nodes at qs (rising_rest less on q qs r) in grind arith
 
     -- keys still rise with a pair put over another
     pub replaced_rising : (ps : List (Pair K V)) → is_rising less ps ≡ true → pair_at less ps p'.key ≡ Some p

@@ -150,12 +150,7 @@ module _ {K V : Type 0} (less : K → K → Bool) where
       → is_in (pair_node p) (nodes_of_pairs ps) ≡ true
   in_nodes [] key p e = absurd (cc)
   in_nodes (q ∷ qs) key p e =
-      elim (cases_Bool (is_key less key q)) [
-        | inl y ↦
-            let same : p ≡ q = cc in
-            or_left _ _ (eq-eqb _ _ (ap pair_node same))
-        | inr z ↦ or_right _ _ (in_nodes qs key p (rw z at e))
-      ]
+      let rest = in_nodes qs key p in let own = eq-eqb (pair_node p) (pair_node p) refl in grind arith
 
   -- a property of all pairs holds for the pairs that remain
   pub removed_all : (P : Pair K V → Type 0) (ps : List (Pair K V)) (key : K) → AllByRecursion P ps

@@ -314,11 +314,7 @@ module _ {K V : Type 0} {k : Plain K} {v : Plain V} {c : WindowState} {at : Plac
 
   -- no node is found: no pair has the key
   pub key_absent : found ≡ None → pair_at k.order ps key ≡ None
-  key_absent e = by_pair (pair_at k.order ps key) (sym e ∙ f.node ps s)
-    where
-      by_pair : (o : Option (Pair K V)) → None ≡ option_map pair_node o → o ≡ None
-      by_pair None n = refl
-      by_pair (Some p) n = absurd (cc)
+  key_absent e = let same = f.node ps s in grind arith
 
 -- ---- the nodes of a map from a key on
 

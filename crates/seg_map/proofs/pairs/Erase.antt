@@ -1,13 +1,13 @@
 -- Removing one pair of the map, and all of them.
 use Rattle.seg_map.proofs.Common as common
-use common.{◌≡◌, both_ways, is_live_in, found-less, found-room, laid-heap, pair_node, own_nodes, cases_Bool, live-rises}
-use common.{refl, bytes_of, nodes_of, released, HoldsMap, IsPairIn, Relinked, ErasesPair, is_proper, extent_at}
-use common.{is_rising, sym, current, link_at, without, LiveSet, EncodesLiveSet, live_of, WritesMapHeader, cases_eq}
-use common.{cells_of, IsStrict, or_right, ap, lay_out_one, remove_pair, nodes_of_pairs, AllByRecursion, SameBlockExcept}
+use common.{◌≡◌, both_ways, is_live_in, found-less, found-room, laid-heap, pair_node, own_nodes, live-rises, refl}
+use common.{bytes_of, nodes_of, released, HoldsMap, IsPairIn, Relinked, ErasesPair, is_proper, extent_at, is_rising}
+use common.{sym, current, link_at, without, LiveSet, EncodesLiveSet, live_of, WritesMapHeader, cases_eq, cells_of}
+use common.{IsStrict, or_right, ap, lay_out_one, remove_pair, nodes_of_pairs, AllByRecursion, SameBlockExcept}
 use common.{KeepsOutsideMap, false_from_ne_true, subst, length, IsTrue, Option, IfSome, eq-eqb, Extent, pair_at}
 use common.{keys_in, exit_in, word_at, root_of, root_in, ◌∙◌, ℕ, ◌+◌, ◌≢◌, None, WindowState, Pair, ◌⊎◌, ◌<◌, inl, inr}
 use common.{Bool, true, ◌∷◌, map, Tree, fork, leaf, In, [], not, false≢true, comes_before, IsKeyTree, false, List}
-use common.{arith, ◌==◌, Some, is_in, handle, roomy, ne_eqb, IsTree, others, Chains, is_key, Rising, Plain}
+use common.{arith, ◌==◌, Some, is_in, handle, roomy, ne_eqb, IsTree, others, Chains, Rising, Plain}
 use Rattle.seg_map.proofs.pairs.Lists.{without_nodes, in_from, nodes_in, Below, rising_below, rising_rest, each_both}
 use Rattle.seg_map.proofs.pairs.Lists.{pair_of, in_nodes, none_left, other_nodes, removed_all, removed_length, AtNode}
 use Rattle.seg_map.proofs.pairs.Lists.{at_node, each, not_among}
@@ -108,13 +108,8 @@ module _ {K V : Type 0} (less : K → K → Bool) where
       ≡ without_all (map (λ (q : Pair K V). q.node) qs) zs
   without_removed [] key p zs e = absurd (cc)
   without_removed (q ∷ qs) key p zs e =
-      elim (cases_Bool (is_key less key q)) [
-        | inl y ↦
-            let same : p ≡ q = cc in
-            rw y (ap (λ (x : Pair K V). without_all (blocks_of qs) (others (handle x.node) zs)) same)
-        | inr z ↦ rw z (ap (without_all (blocks_of (remove_pair less qs key))) (others-comm (handle q.node)
-            (handle p.node) zs) ∙ without_removed qs key p (others (handle q.node) zs) (rw z at e))
-      ]
+      let rest = without_removed qs key p (others (handle q.node) zs) in
+      let swap = others-comm (handle q.node) (handle p.node) zs in grind arith
 
   -- each pair is the one of its key
   own_found : IsStrict less → Chains less → (qs : List (Pair K V)) → is_rising less qs ≡ true

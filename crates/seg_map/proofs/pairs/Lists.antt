@@ -206,13 +206,9 @@ none_behind : {K V : Type 0} (less : K → K → Bool) → IsStrict less
     → (keys : ℕ → Option K) (q : Pair K V) (qs : List (Pair K V)) → keys (pair_node q) ≡ Some q.key → HaveKeys keys qs
     → Below less q.key qs → is_in (pair_node q) (nodes_of_pairs qs) ≡ false
 none_behind less strict keys q [] e k b = refl
-none_behind {K} {V} less strict keys q (p ∷ ps) e k b = ap (λ (x : Bool). x || is_in (pair_node q) (nodes_of_pairs ps))
-    (ne_eqb _ _ differs) ∙ none_behind less strict keys q ps e k.1 b.1
-  where
-    differs : pair_node q ≡ pair_node p → ⊥
-    differs f =
-        let same : Some q.key ≡ Some p.key = sym e ∙ ap keys f ∙ k.0 in let is : q.key ≡ p.key = cc same in
-        both_ways _ (ap (less q.key) (sym is) ∙ strict q.key) b.0
+none_behind less strict keys q (p ∷ ps) e k b =
+    let rest = none_behind less strict keys q ps e k.1 b.1 in let own = k.0 in let above = b.0 in
+    let not_self = strict q.key in grind arith
 
 module _ {K V : Type 0} (less : K → K → Bool) (strict : IsStrict less) (on : Chains less) (keys : ℕ → Option K) where
   -- the nodes without that of a pair

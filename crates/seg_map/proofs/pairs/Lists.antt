@@ -218,19 +218,8 @@ module _ {K V : Type 0} (less : K → K → Bool) (strict : IsStrict less) (on :
   without_nodes p key [] k r h = absurd (cc)
   without_nodes p key (q ∷ qs) k r h =
       let behind = none_behind less strict keys q qs k.0 k.1 (rising_below less on q qs r) in
-      elim (cases_Bool (is_key less key q)) [
-        | inl y ↦
-            let found = rw y at h in let same : p ≡ q = cc in
-            let here : is_in (pair_node p) (nodes_of_pairs qs) ≡ false =
-            ap (λ (x : Pair K V). is_in (pair_node x) (nodes_of_pairs qs)) same ∙ behind in
-            rw (eq-eqb _ _ (ap pair_node same), y) (without_none (pair_node p) (nodes_of_pairs qs) here)
-        | inr z ↦
-            let found = rw z at h in
-            let differs : pair_node p ≡ pair_node q → ⊥ =
-            λ e. both_ways _ (ap (λ n. is_in n (nodes_of_pairs qs)) e ∙ behind) (in_nodes less qs key p found) in
-            rw (ne_eqb _ _ differs, z)
-            (ap (λ ms. pair_node q ∷ ms) (without_nodes p key qs k.1 (rising_rest less on q qs r) found))
-      ]
+      let gone = without_none (pair_node q) (nodes_of_pairs qs) behind in let among = in_nodes less qs key p in
+      let rest = without_nodes p key qs k.1 (rising_rest less on q qs r) in grind arith
 
 pub either_one : (b c : Bool) → not (b || c) ≡ false → b ≡ false → c ≡ true
 either_one b c e f = rw f at (not-false (b || c) e)

@@ -16,12 +16,12 @@ pub use Rattle.offset_link.proofs.Laws.{SameBytes-link, SameBytesExcept-link}
 pub use Rattle.offset_link.specs.Link.{link_at}
 pub use Rattle.raw_region.proofs.Laws.{HasBytesAt-same, SameBytes-trans, SameBytes-word, SameBytesExcept-SameBytes}
 pub use Rattle.raw_region.proofs.Laws.{SameBytesExcept-word, SameSurroundings-trans}
-pub use Rattle.raw_region.specs.{Format.current, Memory.word_at}
+pub use Rattle.raw_region.specs.{Format.current, Memory.SameBytesExcept, Memory.word_at}
 pub use Rattle.raw_region.specs.Memory.{WindowState, HasBytesAt, Memory, SameBytes, SameSurroundings, bytes_of, read}
 pub use Rattle.seg_map.specs.Changing.{KeepsOutsideMap, ErasesPair, WritesMapHeader, IsUnlinkedPair, AllocatesNodeOk}
 pub use Rattle.seg_map.specs.{Changing.LinksPairOk, Searches.entry_in, Searches.exit_in, Places.first_pair}
 pub use Rattle.seg_map.specs.Linking.{IsKeyTree, Relinked, keys_in}
-pub use Rattle.seg_map.specs.PairNodes.{pair_cells, stands, stands_before, before_key, comes_before, is_kept}
+pub use Rattle.seg_map.specs.PairNodes.{stands, stands_before, before_key, comes_before, is_kept}
 pub use Rattle.seg_map.specs.PairNodes.{is_link_byte, is_other, links_among}
 pub use Rattle.seg_map.specs.Places.{is_passed, last_pair, nodes_of_pairs, pair_node, HoldsMap, IsPairIn, final_pair}
 pub use Rattle.seg_map.specs.Map.{IsPairAt, Pair, is_key, is_rising, node_len, pair_at, put_pair, remove_pair}
@@ -38,4 +38,4 @@ pub use Rattle.std.specs.List.{AllByRecursion, last_or, list_all, list_any}
 pub use Rattle.std.specs.Prelude.{IfSome, None, Option, Some, find, if◌then◌else◌, option_map}
 pub use mathlib.Core.List.{reverse}
 unfoldable pub use Rattle.best_fit.specs.Heap.{live_of}
-unfoldable pub use Rattle.seg_map.specs.PairNodes.{is_pair_node, kept_of, key_at, key_of, own_nodes}
+unfoldable pub use Rattle.seg_map.specs.PairNodes.{is_pair_node, kept_of, key_at, key_of, own_nodes, pair_cells}

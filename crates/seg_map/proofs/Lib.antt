@@ -4,7 +4,6 @@ pub mod Laws
 pub use Common.*
 pub use pairs.NodeBlocks.*
 pub use pairs.Lookup.*
-pub use pairs.Listing.{listing_steps, lists_nodes, reads_node, room_at_node}
 pub use pairs.Frame.*
 pub use pairs.Lists.*
 pub use pairs.Erase.*

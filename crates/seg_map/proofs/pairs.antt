@@ -6,4 +6,3 @@ pub mod Lookup
 pub mod Put
 pub mod Erase
 pub mod Frame
-pub mod Listing

@@ -20,10 +20,11 @@ abbrev pub HasKeyTree : {K : Type 0} → Plain K → List ℕ → WindowState �
 HasKeyTree k ns c root =
     (t : Tree) × IsSearchTree (comes_before k.order (keys_in k ns c)) (pair_cells (16 + k.SIZE) ns c) root t
 
--- a link leads to a tree that now has these nodes; only links and colours of the nodes change
+-- a link leads to a tree that now has these nodes; only links and colours of the nodes change, in this many steps for
+-- each bit of their number
 pub record Relinked {K : Type 0} (k : Plain K) (ns : List ℕ) (old new : WindowState) (root top : Option ℕ)
-    (becomes : List ℕ → List ℕ) (steps : ℕ) : Type 0 where
+    (becomes : List ℕ → List ℕ) (factor steps : ℕ) : Type 0 where
   pub kept : kept_of ns new ≡ kept_of ns old
   pub tree : (t : Tree) → IsKeyTree k ns old root t → (s : Tree) × IsKeyTree k ns new top s
       × (nodes_of s ≡ becomes (nodes_of t))
-  pub few : (t : Tree) → IsKeyTree k ns old root t → steps ≤ 30 * bits (length (nodes_of t) + 1) + 32
+  pub few : (t : Tree) → IsKeyTree k ns old root t → steps ≤ factor * bits (length (nodes_of t) + 1) + 32

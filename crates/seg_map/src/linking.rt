@@ -35,7 +35,7 @@ pub fn write_map_header(heap: &mut Heap, place: Place, root: Option<u64>, count:
 impl<K: Plain, V: Plain> SegMap<K, V> {
     /// Removes a pair from the map and frees its block. The removal begins at the root or at the start that a search
     /// found.
-    #[tactic(auto, using(crate::proofs::pairs::NodeBlocks::rooms, crate::proofs::pairs::Frame::trees))]
+    #[tactic(auto, using(crate::proofs::pairs::NodeBlocks::rooms, crate::proofs::pairs::Lists::removed_length))]
     pub(crate) fn unlink_pair(
         self,
         heap: &mut Heap,
@@ -59,7 +59,6 @@ impl<K: Plain, V: Plain> SegMap<K, V> {
     }
 
     /// Links a pair whose node is allocated into the map. The insertion begins where the search for its key found.
-    #[tactic(auto, using(crate::proofs::pairs::NodeBlocks::rooms, crate::proofs::pairs::Frame::trees))]
     pub(crate) fn link_pair(self, heap: &mut Heap, trace: &KeyCursor, node: u64, steps: &mut Steps)
         requires { CanLinkPair K.Plain V.Plain heap.old self.place.handle self.place.at trace.now.root
             trace.now.start node }

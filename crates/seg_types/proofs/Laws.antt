@@ -10,6 +10,6 @@ pub use Rattle.seg_types.specs.ScalarLaws.{i32-back, i64-back, i64-fits, i64-fit
 -- a value of a plain type that is written is read back, and a scalar is read as its number
 pub use Rattle.seg_types.proofs.scalars.PlainReads.{written-read, whole-differs, scalar-read, value-spelled, read-value}
 -- the value of a kind that a number is
-pub use Rattle.seg_types.proofs.scalars.Numbers.{scalar_of-kind, scalar_of-value}
+pub use Rattle.seg_types.proofs.scalars.PlainReads.{scalar_of-kind, scalar_of-value}
 -- the kind of a kind's code
 pub use Rattle.seg_types.proofs.kinds.Codes.{code-read}

@@ -1,5 +1,3 @@
--- Scalars and their bytes: a kind's values are numbers (`Numbers`), and eight bytes spell the number that is read from
--- them.
-pub mod Numbers
-pub mod EightBytes
+-- Scalars and their bytes: what is read from bytes (`PlainReads`), and the number that eight bytes spell.
 pub mod PlainReads
+pub mod EightBytes

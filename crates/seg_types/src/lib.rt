@@ -2,7 +2,6 @@
 #![tactic(auto)]
 
 mod by_kind;
-mod conversions;
 mod key_texts;
 mod keys;
 mod kinds;
@@ -15,11 +14,10 @@ pub mod theorems;
 mod values;
 mod written;
 
-pub use conversions::BadName;
 pub use key_texts::is_bare_name;
 pub use keys::{Handle, IndexKey, Key, NewKey};
 pub use kinds::{Class, Kind, MAX_ARRAY_LEN, ScalarKind};
-pub use names::{MAX_NAME_LEN, Name, is_name};
+pub use names::{BadName, MAX_NAME_LEN, Name, is_name};
 pub use plain::{MAX_SPELLING_LEN, Plain, SHORT_SPELLING_LEN};
 pub use refusals::{LineError, Refusal};
 pub use scalars::Scalar;

@@ -6,12 +6,18 @@ ghost use Rattle.seg_types.specs.Names.{is_control, is_name, is_printable_name, 
 ghost use Rattle.seg_types.specs.Texts.{is_bare_name};
 
 use crate::key_texts::is_bare_name;
+use thiserror::Error;
 
 /// The greatest length of a name in bytes.
 pub const MAX_NAME_LEN: usize = 255;
 
 /// The greatest length of a name in bytes in formats 0 and 1.
 const LONGEST_PRINTABLE_NAME: usize = 63;
+
+/// The error of bytes that are no name: empty, more than 255, not UTF-8, or contain a control character.
+#[derive(Clone, Copy, Debug, PartialEq, Eq, Hash, Error)]
+#[error("a name has 1 to 255 bytes of UTF-8 without control characters")]
+pub struct BadName;
 
 /// A name: 1 to 255 bytes of UTF-8 without control characters. It borrows the bytes and can be copied.
 #[derive(Clone, Copy, Debug, PartialEq, Eq, Hash)]

@@ -1,6 +1,5 @@
 //! Prints kinds and values, in the form of the command language.
-ghost use Rattle.std.specs.Prelude.{◌≡◌, Some, decimal};
-ghost use Rattle.std.specs.Fmt.{DisplaysOnOk, signed_decimal};
+ghost use Rattle.std.specs.Prelude.{◌≡◌, Some};
 ghost use Rattle.seg_types.specs.Texts.{class_text, kind_text, scalar_text, value_text};
 ghost use Rattle.seg_types.specs.Values.{kind_of_scalar, value_of_scalar};
 
@@ -75,26 +74,6 @@ impl fmt::Display for ScalarValue {
     ghost output = { λ v. Some (value_text (kind_of_scalar v) (value_of_scalar v)) };
 
     fn fmt<W: fmt::Write>(&self, f: &mut fmt::Formatter<W>) -> fmt::Result {
-        match self {
-            ScalarValue::Bool(truth) => write!(f, "{truth}"),
-            ScalarValue::U8(number) => write_number(u64::from(*number), f),
-            ScalarValue::I32(number) => write_signed(i64::from(*number), f),
-            ScalarValue::I64(number) => write_signed(*number, f),
-            ScalarValue::U64(number) => write_number(*number, f),
-        }
+        crate::by_value!(self, it => write!(f, "{it}"))
     }
-}
-
-/// Writes a number in decimal.
-fn write_number<W: fmt::Write>(number: u64, f: &mut fmt::Formatter<W>) -> fmt::Result
-    ensures { DisplaysOnOk W.write_str_gives f.old result (Some (decimal number)) f.new }
-{
-    write!(f, "{number}")
-}
-
-/// Writes a signed number in decimal.
-fn write_signed<W: fmt::Write>(number: i64, f: &mut fmt::Formatter<W>) -> fmt::Result
-    ensures { DisplaysOnOk W.write_str_gives f.old result (Some (signed_decimal number)) f.new }
-{
-    write!(f, "{number}")
 }

@@ -1,5 +1,6 @@
 //! Single values.
 ghost use Rattle.std.specs.Prelude.{◌≡◌, length, true, Some, None, if◌then◌else◌};
+ghost use Rattle.seg_types.specs.declared.values.ScalarValue.TheVariants as value;
 ghost use Rattle.seg_types.specs.Kinds.{is_value, size_of, spelling};
 ghost use Rattle.seg_types.specs.Values.{SpelledBy, kind_of_scalar, scalar_of, value_of_scalar};
 
@@ -41,13 +42,7 @@ impl ScalarValue {
         ensures number { result ≡ value_of_scalar self }
         ensures in_range { is_value (kind_of_scalar self) result ≡ true }
     {
-        match self {
-            ScalarValue::Bool(truth) => i128::from(truth),
-            ScalarValue::U8(number) => i128::from(number),
-            ScalarValue::I32(number) => i128::from(number),
-            ScalarValue::I64(number) => i128::from(number),
-            ScalarValue::U64(number) => i128::from(number),
-        }
+        crate::by_value!(self, it => i128::from(it))
     }
 
     /// Returns the number as a value of the kind, or `None` if it is outside the range of the kind.
@@ -86,12 +81,46 @@ impl ScalarValue {
         requires { length to.old ≡ size_of (kind_of_scalar self) }
         ensures { to.new ≡ spelling (kind_of_scalar self) (value_of_scalar self) }
     {
-        match self {
-            ScalarValue::Bool(truth) => truth.write(to),
-            ScalarValue::U8(number) => number.write(to),
-            ScalarValue::I32(number) => number.write(to),
-            ScalarValue::I64(number) => number.write(to),
-            ScalarValue::U64(number) => number.write(to),
-        }
+        crate::by_value!(self, it => it.write(to))
+    }
+}
+
+impl From<bool> for ScalarValue {
+    ghost from_gives = { λ truth made. made ≡ value.Bool truth };
+
+    fn from(truth: bool) -> ScalarValue {
+        ScalarValue::Bool(truth)
+    }
+}
+
+impl From<u8> for ScalarValue {
+    ghost from_gives = { λ number made. made ≡ value.U8 number };
+
+    fn from(number: u8) -> ScalarValue {
+        ScalarValue::U8(number)
+    }
+}
+
+impl From<i32> for ScalarValue {
+    ghost from_gives = { λ number made. made ≡ value.I32 number };
+
+    fn from(number: i32) -> ScalarValue {
+        ScalarValue::I32(number)
+    }
+}
+
+impl From<i64> for ScalarValue {
+    ghost from_gives = { λ number made. made ≡ value.I64 number };
+
+    fn from(number: i64) -> ScalarValue {
+        ScalarValue::I64(number)
+    }
+}
+
+impl From<u64> for ScalarValue {
+    ghost from_gives = { λ number made. made ≡ value.U64 number };
+
+    fn from(number: u64) -> ScalarValue {
+        ScalarValue::U64(number)
     }
 }

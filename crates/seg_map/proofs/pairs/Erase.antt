@@ -1,33 +1,24 @@
 -- Removing one pair of the map, and all of them.
 use Rattle.seg_map.proofs.Common as common
-use common.{◌≡◌, both_ways, is_live_in, found-less, found-room, laid-heap, pair_node, own_nodes, cases_Bool, live-rises}
-use common.{refl, bytes_of, nodes_of, released, HoldsMap, IsPairIn, Relinked, ErasesPair, is_proper, extent_at}
-use common.{is_rising, sym, current, link_at, without, LiveSet, EncodesLiveSet, live_of, WritesMapHeader, cases_eq}
-use common.{cells_of, IsStrict, or_right, ap, lay_out_one, remove_pair, nodes_of_pairs, AllByRecursion, SameBlockExcept}
+use common.{◌≡◌, both_ways, is_live_in, found-less, found-room, laid-heap, pair_node, own_nodes, live-rises, refl}
+use common.{bytes_of, nodes_of, released, HoldsMap, IsPairIn, Relinked, ErasesPair, is_proper, extent_at, is_rising}
+use common.{sym, current, link_at, without, LiveSet, EncodesLiveSet, live_of, WritesMapHeader, cases_eq, cells_of}
+use common.{IsStrict, or_right, ap, lay_out_one, remove_pair, nodes_of_pairs, AllByRecursion, SameBlockExcept}
 use common.{KeepsOutsideMap, false_from_ne_true, subst, length, IsTrue, Option, IfSome, eq-eqb, Extent, pair_at}
 use common.{keys_in, exit_in, word_at, root_of, root_in, ◌∙◌, ℕ, ◌+◌, ◌≢◌, None, WindowState, Pair, ◌⊎◌, ◌<◌, inl, inr}
 use common.{Bool, true, ◌∷◌, map, Tree, fork, leaf, In, [], not, false≢true, comes_before, IsKeyTree, false, List}
-use common.{arith, ◌==◌, Some, is_in, handle, roomy, ne_eqb, IsTree, others, Chains, is_key, Rising, Plain}
+use common.{arith, ◌==◌, Some, is_in, handle, roomy, ne_eqb, IsTree, others, Chains, Rising, Plain}
 use Rattle.seg_map.proofs.pairs.Lists.{without_nodes, in_from, nodes_in, Below, rising_below, rising_rest, each_both}
-use Rattle.seg_map.proofs.pairs.Lists.{pair_of, in_nodes, none_left, other_nodes, removed_all, removed_length}
-use Rattle.seg_map.proofs.pairs.Lists.{apart_all}
+use Rattle.seg_map.proofs.pairs.Lists.{pair_of, in_nodes, none_left, other_nodes, removed_all, removed_length, AtNode}
+use Rattle.seg_map.proofs.pairs.Lists.{at_node, each, not_among}
 use Rattle.seg_map.proofs.{pairs.Lists.known, pairs.Lists.removed_rising, pairs.Lookup.lent_own, pairs.Lookup.lent_tree}
 use Rattle.seg_map.proofs.pairs.SearchTree.{Laws, found_in, good, keys, other_block}
-use Rattle.seg_map.proofs.pairs.Frame.{at_node, map_stays, AtNode, beside_then, keeps_beside, relaid}
+use Rattle.seg_map.proofs.pairs.Frame.{map_stays, beside_then, keeps_beside, relaid}
 use Rattle.seg_map.proofs.pairs.NodeBlocks.{any_at, begins_behind, own_handle}
 use Rattle.seg_map.specs.Changing.{UnlinksPair, FreesAllPairs}
 use Rattle.link_tree.specs.Ways.{remove_point_of}
 use Rattle.best_fit.proofs.Laws.{released-live, others-comm, rising-weak}
 use Rattle.best_fit.specs.{Exchange.exchanged, Exchange.without_all, Heap.Deallocates}
-
--- a node of the tree that can be removed, beginning at the root or at its exit
-pub record CanUnlink {K : Type 0} (k : Plain K) (ns : List ℕ) (c : WindowState) (root start : Option ℕ) (node : ℕ) :
-    Type 0
-  where
-    pub shape : Tree
-    pub tree : IsKeyTree k ns c root shape
-    pub listed : is_in node (nodes_of shape) ≡ true
-    pub begins : IfSome start (λ n. remove_point_of (comes_before k.order (keys_in k ns c)) node shape ≡ Some n)
 
 module _ {K V : Type 0} {kp : Plain K} {vp : Plain V} (kl : Laws kp) (c : WindowState) {h at : ℕ} {root : Option ℕ}
     {ps : List (Pair K V)} (s : HoldsMap kp vp c.bytes h at ps) (is : root ≡ link_at (bytes_of c.bytes) (h + at))
@@ -38,17 +29,18 @@ module _ {K V : Type 0} {kp : Plain K} {vp : Plain V} (kl : Laws kp) (c : Window
   ns_is : lent ≡ nodes_of s.map.tree.tree
   ns_is = lent_own kl c s is refl
 
-  -- the node can be unlinked
-  pub can_unlink : (start : Option ℕ) → start ≡ exit_in kp c node s.map.tree.tree → CanUnlink kp lent c root start node
-  can_unlink start begins = record {
-    shape = s.map.tree.tree;
-    tree = lent_tree kl c s is refl;
-    listed = (λ i. is_in (sym here i) (s.map.tree.lists i)) ∙ in_nodes kp.order ps key p has;
-    begins = rw ns_is (known start (exit_in kp c node s.map.tree.tree) begins);
-  }
+  -- the node can be unlinked, beginning at the root or at its exit
+  pub can_unlink : (start : Option ℕ) → start ≡ exit_in kp c node s.map.tree.tree
+      → IsKeyTree kp lent c root s.map.tree.tree × (is_in node (nodes_of s.map.tree.tree) ≡ true) × IfSome start
+      (λ n. remove_point_of (comes_before kp.order (keys_in kp lent c)) node s.map.tree.tree ≡ Some n)
+  can_unlink start begins = (
+    lent_tree kl c s is refl,
+    (λ i. is_in (sym here i) (s.map.tree.lists i)) ∙ in_nodes kp.order ps key p has,
+    rw ns_is (known start (exit_in kp c node s.map.tree.tree) begins),
+  )
 
   -- the map without the pair
-  pub taken : {d e : WindowState} {top : Option ℕ} {n steps : ℕ} → Relinked kp lent c d root top (without node) steps
+  pub taken : {d e : WindowState} {top : Option ℕ} {n steps : ℕ} → Relinked kp lent c d root top (without node) 30 steps
       → Laws vp → n + 1 ≡ length ps → WritesMapHeader d e (h + at) top n → UnlinksPair kp vp c e h at ps key
   taken u vl count head = relaid s (lent_tree kl c s is refl) u kl vl ps s.pairs s.map.pairs (ns_is ∙ s.map.tree.lists)
       (rw ns_is (good kl c s)) head ((λ i. without (sym here i) (s.map.tree.lists i)) ∙ without_nodes kp.order
@@ -71,7 +63,7 @@ module _ {K V : Type 0} {kp : Plain K} {vp : Plain V} (kl : Laws kp) (vl : Laws 
   pub erased : ErasesPair kp vp c f h at ps p key
   erased =
       let room = roomy e h (at + 24) t.map.heap t.map.room in let begins = room.at in
-      let apart = other h (apart_all kp vp (live_of c.bytes) h ps s.pairs) in
+      let apart = other h (not_among h ps (each ps s.pairs (λ q i. i.apart))) in
       let same = other_block (live_of e.bytes) node h r.keeps room.found (λ g. apart (sym begins ∙ g)) in
       record {
         live = subst (λ l. EncodesLiveSet current f.bytes l) (λ i. released (live_is i) (sym here i)) r.live;
@@ -116,13 +108,8 @@ module _ {K V : Type 0} (less : K → K → Bool) where
       ≡ without_all (map (λ (q : Pair K V). q.node) qs) zs
   without_removed [] key p zs e = absurd (cc)
   without_removed (q ∷ qs) key p zs e =
-      elim (cases_Bool (is_key less key q)) [
-        | inl y ↦
-            let same : p ≡ q = cc in
-            rw y (ap (λ (x : Pair K V). without_all (blocks_of qs) (others (handle x.node) zs)) same)
-        | inr z ↦ rw z (ap (without_all (blocks_of (remove_pair less qs key))) (others-comm (handle q.node)
-            (handle p.node) zs) ∙ without_removed qs key p (others (handle q.node) zs) (rw z at e))
-      ]
+      let rest = without_removed qs key p (others (handle q.node) zs) in
+      let swap = others-comm (handle q.node) (handle p.node) zs in grind arith
 
   -- each pair is the one of its key
   own_found : IsStrict less → Chains less → (qs : List (Pair K V)) → is_rising less qs ≡ true
@@ -230,18 +217,14 @@ module _ {K V : Type 0} {k : Plain K} {v : Plain V} (kl : Laws k) {old now : Win
     apart x o f = both_ways _ (off x o) (ap (λ n. is_in n (nodes_of_pairs g.pairs)) f
         ∙ in_nodes k.order g.pairs key p has)
 
-    fewer_nodes : (m : ℕ) → is_in m (nodes_of_pairs (remove_pair k.order g.pairs key)) ≡ true
-        → is_in m (nodes_of_pairs g.pairs) ≡ true
-    fewer_nodes = in_from (nodes_of_pairs g.pairs) (remove_pair k.order g.pairs key)
-        (removed_all k.order (λ q. is_in (pair_node q) (nodes_of_pairs g.pairs) ≡ true) g.pairs key
-        (nodes_in (nodes_of_pairs g.pairs) g.pairs (λ m i. i)))
-
     -- one more pair is removed
     pub going_on : IsGoing k v old new h at ps
     going_on = record {
       pairs = remove_pair k.order g.pairs key;
       holds = e.map;
-      among = λ m i. g.among m (fewer_nodes m i);
+      among = λ m i. g.among m (in_from (nodes_of_pairs g.pairs) (remove_pair k.order g.pairs key) (removed_all k.order
+          (λ q. is_in (pair_node q) (nodes_of_pairs g.pairs) ≡ true) g.pairs key
+          (nodes_in (nodes_of_pairs g.pairs) g.pairs (λ m i. i))) m i);
       beside = beside_then g.beside e.beside (λ x f o. (g.there x f o, off x o));
       there = λ x f o. rw live_new (found-less (handle x) (handle p.node) x (live_of now.bytes).extents (apart x o)
           (g.there x f o));

@@ -1,54 +1,37 @@
 -- The parts of a map that stay, and the blocks outside it; the map after its tree changes and its three words are
 -- written.
 use Rattle.seg_map.proofs.Common as common
-use common.{Some, extent_at, is_proper, both_ways, false≢true, holds_same, cell_stays, length-map}
-use common.{SameSurroundings-trans, IsTrue, AllByRecursion, PairNode-is_pair_node, is_pair_node-PairNode}
-use common.{SameBytes-trans, KeepsOutsideMap, has_room, node_place, pair_cells, SameBlockExcept, changed-live, ◌≡◌}
-use common.{arith, is_in, KeepsBlocks, subst, Option, leads, Plain, Memory, IsHeap, others, IfSome, refl, bytes_of}
-use common.{is_other, PairNode, nodes_of, Relinked, or_cases, eqb-true, laid-heap, ap, ◌∙◌, ◌+◌, ◌||◌, List, ◌==◌}
-use common.{IsGoodNodeSet, Tree, bits, SameBytes, Pair, None, leaf, fork, roomy, ℕ, ◌-◌, ◌%◌, ◌<◌, ◌≤◌, ◌⊎◌, inl, inr}
-use common.{not, ◌∷◌, WindowState, In, sym, ◌*◌, ◌≢◌, [], true, or_left, word_at, live_of, is_kept, kept_of, keys_in}
-use common.{current, LiveSet, root_of, false, HasBytesAt-same, cells_of, IsPairAt, HoldsMap, IsPairIn, cases_eq}
-use common.{cells_at, WritesMapHeader, ◌&&◌, nat_lt, nat_le, eq-eqb, le-leb, lt-ltb, Extent, handle, end_of, length}
-use common.{EncodesLiveSet, or_right, SameBlock, IsKeyTree, SameBytes-word, SameBytes-link, is_rising, pair_node}
-use common.{tree_same, is_link_byte, IsSearchTree, comes_before, is_pair_node, nodes_of_pairs, changed-keeps}
-use Rattle.seg_map.proofs.pairs.NodeBlocks.{any_at, block_apart, same_red, all_in, target_whole}
+use common.{Some, extent_at, both_ways, false≢true, holds_same, cell_stays, length-map, SameSurroundings-trans, IsTrue}
+use common.{AllByRecursion, PairNode-is_pair_node, is_pair_node-PairNode, SameBytes-trans, KeepsOutsideMap, has_room}
+use common.{node_place, pair_cells, SameBlockExcept, changed-live, ◌≡◌, arith, is_in, KeepsBlocks, subst, Option, leads}
+use common.{Plain, Memory, IsHeap, others, IfSome, refl, bytes_of, is_other, PairNode, nodes_of, Relinked, laid-heap}
+use common.{ap, ◌∙◌, ◌+◌, ◌||◌, List, ◌==◌, IsGoodNodeSet, Tree, bits, SameBytes, Pair, leaf, fork, roomy, ℕ, ◌-◌, ◌%◌}
+use common.{◌<◌, ◌≤◌, ◌⊎◌, inl, inr, not, ◌∷◌, WindowState, In, sym, ◌*◌, ◌≢◌, [], true, or_left, word_at, live_of}
+use common.{is_kept, kept_of, keys_in, current, LiveSet, false, HasBytesAt-same, cells_of, IsPairAt, HoldsMap, IsPairIn}
+use common.{cases_eq, cells_at, WritesMapHeader, ◌&&◌, nat_lt, nat_le, eq-eqb, le-leb, lt-ltb, Extent, handle, end_of}
+use common.{length, EncodesLiveSet, or_right, SameBlock, IsKeyTree, SameBytes-word, SameBytes-link, is_rising}
+use common.{pair_node, tree_same, is_link_byte, IsSearchTree, comes_before, is_pair_node, nodes_of_pairs, changed-keeps}
+use Rattle.seg_map.proofs.pairs.NodeBlocks.{any_at, block_apart, all_in, target_whole}
 use Rattle.seg_map.proofs.pairs.SearchTree.{Laws, pair_parts, found_in, other_block}
-use Rattle.seg_map.proofs.pairs.Lists.{each, each_both, AreAt, AreIn, removed_length, in_from, nodes_in}
-use Rattle.std.proofs.lemmas.Bool.{le-ltb, lt-leb}
+use Rattle.seg_map.proofs.pairs.Lists.{at_node, each, each_both, AreAt, AreIn, in_from, nodes_in}
+use Rattle.std.proofs.lemmas.Bool.{Decides.nat_tests}
 use Rattle.seg_map.specs.{PairNodes.PairTreeFrame, PairNodes.lies_in_block, Changing.RewritesNodes}
 use Rattle.best_fit.proofs.Laws.{but-trans, written-but}
 use Rattle.seg_types.specs.contracts.plain.Plain.TheBound.{Met}
+use Rattle.raw_region.proofs.Facts.{bit-same}
 
 -- the live set is kept
 pub live_stays : (c d : WindowState) (ns ms : List ℕ) → kept_of ms d ≡ kept_of ns c → live_of d.bytes ≡ live_of c.bytes
 unfolding kept_of
 live_stays c d ns ms e = ap (λ (k : PairTreeFrame). k.live) e
 
--- the live set is proper still
-pub kept_proper : (c d : WindowState) (ns : List ℕ) → kept_of ns d ≡ kept_of ns c → IsTrue (is_proper (live_of c.bytes))
-    → IsTrue (is_proper (live_of d.bytes))
-kept_proper c d ns e proper = rw (live_stays c d ns ns e) proper
-
--- a block has room still
-pub kept_room : (c d : WindowState) (ns : List ℕ) (h n : ℕ) → kept_of ns d ≡ kept_of ns c
-    → IsTrue (has_room (live_of c.bytes) h n) → IsTrue (has_room (live_of d.bytes) h n)
-kept_room c d ns h n e room = rw (live_stays c d ns ns e) room
-
--- the list of nodes is kept
-pub own_stays : (c d : WindowState) (ns ms : List ℕ) → kept_of ms d ≡ kept_of ns c → ms ≡ ns
-unfolding kept_of
-own_stays c d ns ms e = ap (λ (k : PairTreeFrame). k.own) e
-
 -- a byte outside the links of each node is in no link
 no_link : (ns : List ℕ) (k : ℕ) → ((n : ℕ) → is_in n ns ≡ true → (k < n) ⊎ (n + 16 ≤ k)) → is_link_byte ns k ≡ false
 no_link [] k off = refl
 no_link (n ∷ ns) k off =
-    rw (here (off n (or_left _ _ (eq-eqb n n refl))), no_link ns k (λ m i. off m (or_right _ _ i))) refl
-  where
-    here : (k < n) ⊎ (n + 16 ≤ k) → (nat_le n k && nat_lt k (n + 16)) ≡ false
-    here (inl l) = rw (lt-leb n k l) refl
-    here (inr l) = rw (le-leb n k (omega arith), le-ltb k (n + 16) l) refl
+    let o = off n (or_left _ _ (eq-eqb n n refl)) in
+    let here : (nat_le n k && nat_lt k (n + 16)) ≡ false = grind (arith, nat_tests, o) in
+    rw (here, no_link ns k (λ m i. off m (or_right _ _ i))) refl
 
 module _ {len : ℕ} {ns : List ℕ} {c : WindowState} (d : WindowState) (good : IsGoodNodeSet len ns c)
     (same : kept_of ns d ≡ kept_of ns c) (long : 16 ≤ len) where
@@ -64,29 +47,25 @@ module _ {len : ℕ} {ns : List ℕ} {c : WindowState} (d : WindowState) (good :
   -- a header byte but word 24 stays
   kept_header : (k : ℕ) → (k < 24) ⊎ ((32 ≤ k) × (k < 128)) → bytes_of d.bytes k ≡ bytes_of c.bytes k
   kept_header k place = kept_byte k (rw (
-    here place,
+    or_left (nat_lt k 24 || (nat_le 32 k && nat_lt k 128)) (lies_in_block (live_of c.bytes) k)
+        (grind (arith, nat_tests, place)),
     ap not (no_link ns k (λ n i.
-        let l = (node_place len ns c n (record { good = good; listed = i })).low in inl (below place n l))),
+        let l = (node_place len ns c n (record { good = good; listed = i })).low in inl (omega (arith, place, l)))),
   ) refl)
-    where
-      here : (k < 24) ⊎ ((32 ≤ k) × (k < 128)) → (nat_lt k 24 || (nat_le 32 k && nat_lt k 128) || lies_in_block
-          (live_of c.bytes) k) ≡ true
-      here (inl l) = or_left _ _ (or_left _ _ (lt-ltb k 24 l))
-      here (inr p) = or_left _ _ (or_right (nat_lt k 24) (nat_le 32 k && nat_lt k 128)
-          (rw (le-leb 32 k p.0, lt-ltb k 128 p.1) refl))
 
-      below : (k < 24) ⊎ ((32 ≤ k) × (k < 128)) → (n : ℕ) → 144 ≤ n → k < n
-      below (inl l) n low' = omega arith
-      below (inr p) n low' = omega arith
-
-  -- a byte in the payload of a block stays, but for links of nodes
+  -- a byte in the payload of a block stays, but for the links of a node
   pub kept_inside : (x : Extent) → In x (live_of c.bytes).extents → (k : ℕ) → handle x ≤ k → k < end_of x
-      → ((n : ℕ) → is_in n ns ≡ true → (k < n) ⊎ (n + 16 ≤ k)) → bytes_of d.bytes k ≡ bytes_of c.bytes k
-  kept_inside x i k low high off = kept_byte k (rw (
+      → (is_in (handle x) ns ≡ true → handle x + 16 ≤ k) → bytes_of d.bytes k ≡ bytes_of c.bytes k
+  kept_inside x i k low high own = kept_byte k (rw (
     or_right (nat_lt k 24 || (nat_le 32 k && nat_lt k 128)) (lies_in_block (live_of c.bytes) k)
         (any_at (λ (y : Extent). nat_le (handle y) k && nat_lt k (end_of y)) (live_of c.bytes).extents x i
         (rw (le-leb (handle x) k low, lt-ltb k (end_of x) high) refl)),
-    ap not (no_link ns k off),
+    ap not (no_link ns k (λ m j.
+        let q : PairNode len ns c m = record { good = good; listed = j } in
+        elim (cases_eq (handle x) m) [
+          | inl e ↦ let past = own (ap (λ n. is_in n ns) e ∙ j) in inr (omega (arith, past, e))
+          | inr o ↦ grind (arith, block_apart x q i o)
+        ])),
   ) refl)
 
   -- a block that is no node stays
@@ -95,17 +74,12 @@ module _ {len : ℕ} {ns : List ℕ} {c : WindowState} (d : WindowState) (good :
   kept_block x i o =
       let w : x.offset + 16 - 8 ≡ x.offset + 8 = omega arith in
       record {
-        payload = record { at = λ k low high. kept_inside x i k low high (λ n j. apart n j k low high) };
+        payload = record { at = λ k low high. kept_inside x i k low high (λ j. absurd (both_ways _ o j)) };
         colour = rw w at (kept_colour (handle x) (rw (
           any_at (λ (y : Extent). handle y == handle x) (live_of c.bytes).extents x i (eq-eqb _ _ refl),
           ap not o,
         ) refl));
       }
-    where
-      apart : (n : ℕ) → is_in n ns ≡ true → (k : ℕ) → handle x ≤ k → k < end_of x → (k < n) ⊎ (n + 16 ≤ k)
-      apart n j k low high =
-          let q : PairNode len ns c n = record { good = good; listed = j } in
-          grind (arith, block_apart x q i (λ e. both_ways _ o (ap (λ m. is_in m ns) e ∙ j)))
 
   -- the header except word 24 stays, and so do the bytes around the window
   pub kept_keeps : KeepsBlocks c d []
@@ -153,21 +127,18 @@ beside_then p q still = record {
 
 -- ---- a call of the tree, for the heap that it was lent
 
--- the bound of an insertion is below that of a removal
-pub fewer : (n digits : ℕ) → n ≤ 28 * digits + 32 → n ≤ 30 * digits + 32
-fewer n digits few = omega arith
-
 -- by the nodes as they were, and by the steps that were added
 pub relinked : {K : Type 0} (k : Plain K) (ns ms : List ℕ) {c d e : WindowState} (root top : Option ℕ)
-    {becomes : List ℕ → List ℕ} (before : ℕ) {after : ℕ} (steps : ℕ) → e ≡ d → kept_of ms d ≡ kept_of ns c
+    {becomes : List ℕ → List ℕ} {factor : ℕ} (before : ℕ) {after : ℕ} (steps : ℕ) → e ≡ d → kept_of ms d ≡ kept_of ns c
     → leads (is_pair_node (16 + k.SIZE) ms d) top ≡ true → after ≡ before + steps
     → ((t : Tree) → IsSearchTree (comes_before k.order (keys_in k ns c)) (pair_cells (16 + k.SIZE) ns c) root t
     → (s : Tree) × IsSearchTree (comes_before k.order (keys_in k ms d)) (pair_cells (16 + k.SIZE) ms d) top s
     × (nodes_of s ≡ becomes (nodes_of t)))
     → ((t : Tree) → IsSearchTree (comes_before k.order (keys_in k ns c)) (pair_cells (16 + k.SIZE) ns c) root t
-    → steps ≤ 30 * bits (length (nodes_of t) + 1) + 32) → Relinked k ns c e root top becomes (after - before)
+    → steps ≤ factor * bits (length (nodes_of t) + 1) + 32) → Relinked k ns c e root top becomes factor (after - before)
+unfolding kept_of
 relinked k ns ms {c} {d} {e} root top before {after} steps now kept leads_to added tree few =
-    let same = own_stays c d ns ms kept in
+    let same : ms ≡ ns = ap (λ (r : PairTreeFrame). r.own) kept in
     rw now (record {
       kept = ap (λ (ks : List ℕ). kept_of ks d) (sym same) ∙ kept;
       tree = λ t h.
@@ -176,7 +147,7 @@ relinked k ns ms {c} {d} {e} root top before {after} steps now kept leads_to add
             subst (λ (ks : List ℕ). IsKeyTree k ks d top r.0) same (record { tree = r.1; leads = leads_to }),
             r.2,
           );
-      few = λ t h. omega arith;
+      few = λ t h. let most = few t h.tree in omega (arith, most, added);
     })
 
 -- ---- a map whose blocks stay stays
@@ -187,24 +158,9 @@ pub block_cells : (m m' : Memory) (x : Extent) → SameBlock m m' x → 32 ≤ x
 block_cells m m' x s long =
     let e : x.offset + 8 ≡ handle x - 8 = omega arith in
     cell_stays m m' (handle x) (SameBytes-link _ _ _ _ (handle x) s.payload (omega arith) (omega arith))
-    (SameBytes-link _ _ _ _ (handle x + 8) s.payload (omega arith) (omega arith)) (same_red (word_at m (handle x - 8))
-    (word_at m' (handle x - 8)) (subst (λ a. word_at m' a % 16 ≡ word_at m a % 16) e s.colour))
-
--- the pair of a node
-pub record AtNode {K V : Type 0} (P : Pair K V → Type 0) (m : ℕ) : Type 0 where
-  pub pair : Pair K V
-  pub holds : P pair
-  pub at : pair_node pair ≡ m
-
--- a property of all pairs holds at the node of one
-pub at_node : {K V : Type 0} (P : Pair K V → Type 0) (ps : List (Pair K V)) (m : ℕ) → is_in m (nodes_of_pairs ps) ≡ true
-    → AllByRecursion P ps → AtNode P m
-at_node P [] m i a = absurd (false≢true i)
-at_node P (p ∷ ps) m i a =
-    elim (or_cases _ _ i) [
-      | inl e ↦ record { pair = p; holds = a.0; at = sym (eqb-true m (pair_node p) e) }
-      | inr e ↦ at_node P ps m e a.1
-    ]
+    (SameBytes-link _ _ _ _ (handle x + 8) s.payload (omega arith) (omega arith)) (ap (λ (k : ℕ). k == 1)
+    (bit-same (word_at m' (handle x - 8)) (word_at m (handle x - 8))
+    (subst (λ a. word_at m' a % 16 ≡ word_at m a % 16) e s.colour)))
 
 -- the bytes of a pair stay
 pub pair_stays : {K V : Type 0} {kp : Plain K} {vp : Plain V} → Laws kp → Laws vp → (m m' : Memory) {live : LiveSet}
@@ -284,145 +240,133 @@ module _ {K V : Type 0} {kp : Plain K} {vp : Plain V} (kl : Laws kp) (vl : Laws 
 
 -- a call of the tree changes no block, and neither does writing the three words
 module _ {K : Type 0} {kp : Plain K} {c d : WindowState} {ns : List ℕ} {root top : Option ℕ} {becomes : List ℕ → List ℕ}
-    {steps : ℕ} (u : Relinked kp ns c d root top becomes steps) where
+    {factor steps : ℕ} (u : Relinked kp ns c d root top becomes factor steps) where
+  -- the live set is as it was
   pub live_left : live_of d.bytes ≡ live_of c.bytes
   live_left = live_stays c d ns ns u.kept
 
-  -- the live set is as before
+  -- and still is when the words are written
   pub live_laid : {e : WindowState} {at n : ℕ} → WritesMapHeader d e at top n → live_of e.bytes ≡ live_of c.bytes
   live_laid head = changed-live _ _ _ _ _ head.change ∙ live_left
-
--- rules for a map with one pair less: its length, and its blocks, which stay when the tree changes
-pub ruleset trees = (kept_proper, kept_room, removed_length)
 
 -- a call of the tree of a map
 module _ {K V : Type 0} {kp : Plain K} {vp : Plain V} {c d : WindowState} {h at : ℕ} {ps : List (Pair K V)}
     (s : HoldsMap kp vp c.bytes h at ps) {ns : List ℕ} {root top : Option ℕ} (tree : IsKeyTree kp ns c root
-    s.map.tree.tree) {becomes : List ℕ → List ℕ} {steps : ℕ} (u : Relinked kp ns c d root top becomes steps) where
-  -- the root is at a multiple of 16
-  pub top_whole : IfSome top (λ t. t % 16 ≡ 0)
-  top_whole = target_whole (16 + kp.SIZE) ns d top (u.tree s.map.tree.tree tree).1.leads
+    s.map.tree.tree) {becomes : List ℕ → List ℕ} {factor steps : ℕ}
+    (u : Relinked kp ns c d root top becomes factor steps)
+  where
+    -- the root is at a multiple of 16
+    pub top_whole : IfSome top (λ t. t % 16 ≡ 0)
+    top_whole = target_whole (16 + kp.SIZE) ns d top (u.tree s.map.tree.tree tree).1.leads
 
-  -- at most 30 steps for each bit of the number of pairs, and 32
-  pub few_steps : steps ≤ 30 * bits (length ps + 1) + 32
-  few_steps = subst (λ n. steps ≤ 30 * bits (n + 1) + 32) (ap length s.map.tree.lists ∙ length-map ps pair_node)
-      (u.few s.map.tree.tree tree)
+    -- the steps by the number of pairs
+    pub few_steps : steps ≤ factor * bits (length ps + 1) + 32
+    few_steps = subst (λ n. steps ≤ factor * bits (n + 1) + 32) (ap length s.map.tree.lists ∙ length-map ps pair_node)
+        (u.few s.map.tree.tree tree)
 
-  -- the words are written; the nodes are the nodes of these pairs
-  module _ (kl : Laws kp) (vl : Laws vp) (ws : List (Pair K V)) (pairs : AreIn kp vp (live_of c.bytes) h ws)
-      (bytes : AreAt kp vp (bytes_of c.bytes) ws) (are : ns
-      ≡ nodes_of_pairs ws) (good : IsGoodNodeSet (16 + kp.SIZE) ns c)
-      {e : WindowState} {n : ℕ} (head : WritesMapHeader d e (h + at) top n) where
-    live_e : live_of e.bytes ≡ live_of c.bytes
-    live_e = live_laid u head
+    -- the words are written; the nodes are the nodes of these pairs
+    module _ (kl : Laws kp) (vl : Laws vp) (ws : List (Pair K V)) (pairs : AreIn kp vp (live_of c.bytes) h ws)
+        (bytes : AreAt kp vp (bytes_of c.bytes) ws) (are : ns
+        ≡ nodes_of_pairs ws) (good : IsGoodNodeSet (16 + kp.SIZE) ns c)
+        {e : WindowState} {n : ℕ} (head : WritesMapHeader d e (h + at) top n) where
+      live_e : live_of e.bytes ≡ live_of c.bytes
+      live_e = live_laid u head
 
-    others_stay : KeepsBlocks d e (others h (live_of d.bytes).extents)
-    others_stay = changed-keeps current d e h at 24 head.change (rw (live_left u) s.room)
+      others_stay : KeepsBlocks d e (others h (live_of d.bytes).extents)
+      others_stay = changed-keeps current d e h at 24 head.change (rw (live_left u) s.room)
 
-    -- the words are written in another block
-    block_stays : (x : Extent) → extent_at (live_of c.bytes) (handle x) ≡ Some x → handle x ≢ h
-        → SameBlock (bytes_of d.bytes) (bytes_of e.bytes) x
-    block_stays x f o = other_block (live_of d.bytes) h (handle x) others_stay (rw (live_left u) f) o
+      -- the words are written in another block
+      block_stays : (x : Extent) → extent_at (live_of c.bytes) (handle x) ≡ Some x → handle x ≢ h
+          → SameBlock (bytes_of d.bytes) (bytes_of e.bytes) x
+      block_stays x f o = other_block (live_of d.bytes) h (handle x) others_stay (rw (live_left u) f) o
 
-    rest_kept : KeepsBlocks c d []
-    rest_kept = kept_keeps d good u.kept (omega arith)
+      rest_kept : KeepsBlocks c d []
+      rest_kept = kept_keeps d good u.kept (omega arith)
 
-    beside : KeepsOutsideMap c e (h + at) ns
-    beside =
-        let r = roomy c h (at + 24) s.heap s.room in
-        let written = written-but d e (live_of c.bytes) h (h + at) 24 r.extent s.heap.proper r.found head.change
-        (omega arith) (omega arith) in
-        record {
-          place = SameSurroundings-trans _ _ _ rest_kept.place head.change.place;
-          front = SameBytes-trans _ _ _ _ _ rest_kept.front others_stay.front;
-          behind = SameBytes-trans _ _ _ _ _ rest_kept.behind others_stay.behind;
-          blocks = λ x f o.
-              let i = found_in (live_of c.bytes).extents (handle x) x f in
-              let p = kept_block d good u.kept (omega arith) x i o in
-              let q = all_in (SameBlockExcept (bytes_of d.bytes) (bytes_of e.bytes) (h + at) 24)
-              (live_of c.bytes).extents x written i in
-              (but-trans (bytes_of c.bytes) (bytes_of d.bytes) (bytes_of e.bytes) (h + at) 24 (x ∷ []) (p, tt)
-              (q, tt)).0;
-        }
+      beside : KeepsOutsideMap c e (h + at) ns
+      beside =
+          let r = roomy c h (at + 24) s.heap s.room in
+          let written = written-but d e (live_of c.bytes) h (h + at) 24 r.extent s.heap.proper r.found head.change
+          (omega arith) (omega arith) in
+          record {
+            place = SameSurroundings-trans _ _ _ rest_kept.place head.change.place;
+            front = SameBytes-trans _ _ _ _ _ rest_kept.front others_stay.front;
+            behind = SameBytes-trans _ _ _ _ _ rest_kept.behind others_stay.behind;
+            blocks = λ x f o.
+                let i = found_in (live_of c.bytes).extents (handle x) x f in
+                let p = kept_block d good u.kept (omega arith) x i o in
+                let q = all_in (SameBlockExcept (bytes_of d.bytes) (bytes_of e.bytes) (h + at) 24)
+                (live_of c.bytes).extents x written i in
+                (but-trans (bytes_of c.bytes) (bytes_of d.bytes) (bytes_of e.bytes) (h + at) 24 (x ∷ []) (p, tt)
+                (q, tt)).0;
+          }
 
-    -- a node of the tree is in the node set, whose links lead to nodes
-    node_d : (t : Tree) → IsKeyTree kp ns d top t → (m : ℕ) → is_in m (nodes_of t) ≡ true → is_in m ns ≡ true
-        → is_pair_node (16 + kp.SIZE) ns d m ≡ true
-    node_d t k m i j = by_root top k.leads k.tree.tree.root
-      where
-        by_root : (o : Option ℕ) → leads (is_pair_node (16 + kp.SIZE) ns d) o ≡ true → o ≡ root_of t
-            → is_pair_node (16 + kp.SIZE) ns d m ≡ true
-        by_root (Some r) l is = PairNode-is_pair_node (16 + kp.SIZE) ns d m
-            (record { good = (is_pair_node-PairNode (16 + kp.SIZE) ns d r l).good; listed = j })
-        by_root None l is = absurd (no_node t is i)
-          where
-            no_node : (u : Tree) → None ≡ root_of u → is_in m (nodes_of u) ≡ true → ⊥
-            no_node leaf f g = false≢true g
-            no_node (fork red left x right) f g = absurd (cc)
+      -- a node of the tree is in the node set, whose links lead to nodes
+      node_d : (t : Tree) → IsKeyTree kp ns d top t → (m : ℕ) → is_in m (nodes_of t) ≡ true → is_in m ns ≡ true
+          → is_pair_node (16 + kp.SIZE) ns d m ≡ true
+      node_d leaf k m i j = absurd (false≢true i)
+      node_d (fork red left x right) k m i j =
+          let r = subst (λ (o : Option ℕ). leads (is_pair_node (16 + kp.SIZE) ns d) o ≡ true) k.tree.tree.root
+          k.leads in
+          PairNode-is_pair_node (16 + kp.SIZE) ns d m
+          (record { good = (is_pair_node-PairNode (16 + kp.SIZE) ns d x r).good; listed = j })
 
-    -- the key and the value of a pair stay
-    pair_kept : (p : Pair K V) → IsPairIn kp vp (live_of c.bytes) h p
-        → SameBytes (bytes_of c.bytes) (bytes_of e.bytes) (handle p.node + 16)
-        (handle p.node + (16 + kp.SIZE + vp.SIZE))
-    pair_kept p i =
-        let x = p.node in let listed = found_in (live_of c.bytes).extents (handle x) x i.listed in
-        let long = (pair_parts i).long in let same = block_stays x i.listed i.apart in
-        record {
-          at = λ k from to. same.payload.at k (omega arith) (omega arith) ∙ kept_inside d good u.kept (omega arith) x
-              listed k (omega arith) (omega arith) (λ m j. apart k from (omega arith) m j (cases_eq (handle x) m));
-        }
-      where
-        apart : (k : ℕ) → handle p.node + 16 ≤ k → k < end_of p.node → (m : ℕ) → is_in m ns ≡ true
-            → (handle p.node ≡ m) ⊎ (handle p.node ≡ m → ⊥) → (k < m) ⊎ (m + 16 ≤ k)
-        apart k from to m j (inl f) = inr (omega arith)
-        apart k from to m j (inr o) =
-            let q : PairNode (16 + kp.SIZE) ns c m = record { good = good; listed = j } in
-            grind (arith, block_apart p.node q (found_in (live_of c.bytes).extents (handle p.node) p.node i.listed) o)
+      -- the key and the value of a pair stay
+      pair_kept : (p : Pair K V) → IsPairIn kp vp (live_of c.bytes) h p
+          → SameBytes (bytes_of c.bytes) (bytes_of e.bytes) (handle p.node + 16)
+          (handle p.node + (16 + kp.SIZE + vp.SIZE))
+      pair_kept p i =
+          let x = p.node in let listed = found_in (live_of c.bytes).extents (handle x) x i.listed in
+          let long = (pair_parts i).long in let same = block_stays x i.listed i.apart in
+          record {
+            at = λ k from to. same.payload.at k (omega arith) (omega arith) ∙ kept_inside d good u.kept (omega arith) x
+                listed k (omega arith) (omega arith) (λ j. from);
+          }
 
-    tree_cells : (qs : List (Pair K V)) {t : Tree} → IsKeyTree kp ns d top t → nodes_of t ≡ nodes_of_pairs qs
-        → AreIn kp vp (live_of c.bytes) h qs → ((m : ℕ) → is_in m (nodes_of_pairs qs) ≡ true → is_in m ns ≡ true)
-        → (m : ℕ) → is_in m (nodes_of t) ≡ true → cells_of (bytes_of e.bytes) m ≡ pair_cells (16 + kp.SIZE) ns d m
-    tree_cells qs {t} k lists these own m i =
-        let j = ap (λ ms. is_in m ms) (sym lists) ∙ i in
-        let a = at_node (IsPairIn kp vp (live_of c.bytes) h) qs m j these in let long = (pair_parts a.holds).long in
-        let same = block_stays a.pair.node a.holds.listed a.holds.apart in
-        subst (λ x. cells_of (bytes_of e.bytes) x ≡ cells_of (bytes_of d.bytes) x) a.at
-        (block_cells (bytes_of d.bytes) (bytes_of e.bytes) a.pair.node same (omega arith))
-        ∙ sym (cells_at (16 + kp.SIZE) ns d m (node_d t k m i (own m j)))
+      tree_cells : (qs : List (Pair K V)) {t : Tree} → IsKeyTree kp ns d top t → nodes_of t ≡ nodes_of_pairs qs
+          → AreIn kp vp (live_of c.bytes) h qs → ((m : ℕ) → is_in m (nodes_of_pairs qs) ≡ true → is_in m ns ≡ true)
+          → (m : ℕ) → is_in m (nodes_of t) ≡ true → cells_of (bytes_of e.bytes) m ≡ pair_cells (16 + kp.SIZE) ns d m
+      tree_cells qs {t} k lists these own m i =
+          let j = ap (λ ms. is_in m ms) (sym lists) ∙ i in
+          let a = at_node (IsPairIn kp vp (live_of c.bytes) h) qs m j these in let long = (pair_parts a.holds).long in
+          let same = block_stays a.pair.node a.holds.listed a.holds.apart in
+          subst (λ x. cells_of (bytes_of e.bytes) x ≡ cells_of (bytes_of d.bytes) x) a.at
+          (block_cells (bytes_of d.bytes) (bytes_of e.bytes) a.pair.node same (omega arith))
+          ∙ sym (cells_at (16 + kp.SIZE) ns d m (node_d t k m i (own m j)))
 
-    -- the map has the pairs of the tree
-    pub relaid : {qs : List (Pair K V)} → becomes (nodes_of s.map.tree.tree) ≡ nodes_of_pairs qs
-        → ((P : Pair K V → Type 0) → AllByRecursion P ws → AllByRecursion P qs) → is_rising kp.order qs ≡ true
-        → n ≡ length qs → RewritesNodes kp vp c e h at (nodes_of_pairs ws) qs
-    relaid {qs} becoming all rising count =
-        let r = u.tree s.map.tree.tree tree in let lists = r.2 ∙ becoming in
-        let own = in_from ns qs (all (λ q. is_in (pair_node q) ns ≡ true)
-        (nodes_in ns ws (λ m i. ap (is_in m) are ∙ i))) in
-        let these = all (IsPairIn kp vp (live_of c.bytes) h) pairs in
-        record {
-          live = subst (EncodesLiveSet current e.bytes) (live_left u) head.change.live;
-          beside = subst (KeepsOutsideMap c e (h + at)) are beside;
-          map = record {
-            heap = laid-heap _ _ head.change.live;
+      -- the map has the pairs of the tree
+      pub relaid : {qs : List (Pair K V)} → becomes (nodes_of s.map.tree.tree) ≡ nodes_of_pairs qs
+          → ((P : Pair K V → Type 0) → AllByRecursion P ws → AllByRecursion P qs) → is_rising kp.order qs ≡ true
+          → n ≡ length qs → RewritesNodes kp vp c e h at (nodes_of_pairs ws) qs
+      relaid {qs} becoming all rising count =
+          let r = u.tree s.map.tree.tree tree in let lists = r.2 ∙ becoming in
+          let own = in_from ns qs (all (λ q. is_in (pair_node q) ns ≡ true)
+          (nodes_in ns ws (λ m i. ap (is_in m) are ∙ i))) in
+          let these = all (IsPairIn kp vp (live_of c.bytes) h) pairs in
+          record {
+            live = subst (EncodesLiveSet current e.bytes) (live_left u) head.change.live;
+            beside = subst (KeepsOutsideMap c e (h + at)) are beside;
             map = record {
-              count = head.counted ∙ count;
-              third = head.third;
-              tree = record {
-                tree = r.0;
-                linked = rw head.link (tree_same (pair_cells (16 + kp.SIZE) ns d)
-                    (cells_of (bytes_of e.bytes)) top r.0 (tree_cells qs r.1 lists these own) r.1.tree.tree);
-                red_black = r.1.tree.red_black;
-                lists = lists;
+              heap = laid-heap _ _ head.change.live;
+              map = record {
+                count = head.counted ∙ count;
+                third = head.third;
+                tree = record {
+                  tree = r.0;
+                  linked = rw head.link (tree_same (pair_cells (16 + kp.SIZE) ns d)
+                      (cells_of (bytes_of e.bytes)) top r.0 (tree_cells qs r.1 lists these own) r.1.tree.tree);
+                  red_black = r.1.tree.red_black;
+                  lists = lists;
+                };
+                pairs = each_both qs these (all (IsPairAt kp.SIZE kp.spelling vp.spelling (bytes_of c.bytes)) bytes)
+                    (λ q i b. pair_stays kl vl (bytes_of c.bytes) (bytes_of e.bytes) i (pair_kept q i) b);
               };
-              pairs = each_both qs these (all (IsPairAt kp.SIZE kp.spelling vp.spelling (bytes_of c.bytes)) bytes)
-                  (λ q i b. pair_stays kl vl (bytes_of c.bytes) (bytes_of e.bytes) i (pair_kept q i) b);
+              aligned = s.aligned;
+              room = rw live_e s.room;
+              rising = rising;
+              pairs = rw live_e these;
             };
-            aligned = s.aligned;
-            room = rw live_e s.room;
-            rising = rising;
-            pairs = rw live_e these;
-          };
-        }
+          }
 
 -- ---- the bound of a type on its values, for the lemmas on maps
 

@@ -1,17 +1,17 @@
 -- Lists of pairs: searches, puts and removals, their nodes and their keys.
-use Rattle.seg_map.proofs.Common.{◌≡◌, refl, sym, ap, subst, ◌∙◌, inl, inr, Bool, List, ◌∷◌, map, reverse, Option, Some}
-use Rattle.seg_map.proofs.Common.{find, option_map, AllByRecursion, last_or, cases_Bool, true, false, ◌||◌, not, None}
-use Rattle.seg_map.proofs.Common.{if◌then◌else◌, and_parts, Chains, Pair, is_rising, pair_at, first_pair, ℕ, suc, ◌≢◌}
-use Rattle.seg_map.proofs.Common.{length, ◌==◌, both_ways, or_left, or_right, eq-eqb, ne_eqb, is_in, without, IsStrict}
-use Rattle.seg_map.proofs.Common.{is_key, remove_pair, nodes_of_pairs, pair_node, LiveSet, eqb-true, false≢true}
-use Rattle.seg_map.proofs.Common.{or_cases, ◌⊎◌, is_ordered_with, insert_in_order, put_pair, before_key, comes_before}
-use Rattle.seg_map.proofs.Common.{Plain}
-use Rattle.seg_map.proofs.Common.{Memory}
-use Rattle.seg_map.proofs.Common.{IsPairAt, IsPairIn, IfSome, stands, stands_before, [], or_parts, false_from_ne_true}
-use Rattle.std.proofs.lemmas.{Bool.and_from, Bool.true≢false, Bool.not-false, List.map-append}
-use Rattle.std.proofs.Common.{◌++◌, nat_eq}
+use Rattle.seg_map.proofs.Common.{arith, ◌≡◌, refl, sym, ap, subst, ◌∙◌, inl, inr, Bool, List, ◌∷◌, map, reverse}
+use Rattle.seg_map.proofs.Common.{Option, Some, find, option_map, AllByRecursion, last_or, cases_Bool, true, false}
+use Rattle.seg_map.proofs.Common.{◌||◌, not, None, if◌then◌else◌, and_parts, Chains, Pair, is_rising, pair_at}
+use Rattle.seg_map.proofs.Common.{first_pair, ℕ, suc, ◌≢◌, length, ◌==◌, both_ways, or_left, or_right, eq-eqb, ne_eqb}
+use Rattle.seg_map.proofs.Common.{is_in, without, IsStrict, is_key, remove_pair, nodes_of_pairs, pair_node, LiveSet}
+use Rattle.seg_map.proofs.Common.{eqb-true, false≢true, or_cases, ◌⊎◌, is_ordered_with, insert_in_order, put_pair}
+use Rattle.seg_map.proofs.Common.{before_key, comes_before, Plain, Memory, IsPairAt, IsPairIn, IfSome, stands}
+use Rattle.seg_map.proofs.Common.{stands_before, [], or_parts}
+use Rattle.std.proofs.lemmas.{Bool.and_from, Bool.not-false, List.map-append}
+use Rattle.std.proofs.Common.{◌++◌}
 use mathlib.Core.List.{reverse-cons}
 use Rattle.link_tree.proofs.Laws.{without_none}
+use Rattle.raw_region.proofs.Facts.{AllByRecursion-append}
 
 -- a property of each element implies another of each
 pub each : {A : Type 0} {P Q : A → Type 0} (xs : List A) → AllByRecursion P xs → ((x : A) → P x → Q x)
@@ -25,16 +25,11 @@ pub each_both : {A : Type 0} {P Q R : A → Type 0} (xs : List A) → AllByRecur
 each_both [] a b f = tt
 each_both (x ∷ xs) a b f = (f x a.0 b.0, each_both xs a.1 b.1 f)
 
-all_append : {A : Type 0} (P : A → Type 0) (xs ys : List A) → AllByRecursion P xs → AllByRecursion P ys
-    → AllByRecursion P (xs ++ ys)
-all_append P [] ys a b = b
-all_append P (x ∷ xs) ys a b = (a.0, all_append P xs ys a.1 b)
-
 -- a property of each element holds for the reversed list
 pub all_reversed : {A : Type 0} (P : A → Type 0) (xs : List A) → AllByRecursion P xs → AllByRecursion P (reverse xs)
 all_reversed P [] a = tt
 all_reversed P (x ∷ xs) a = subst (AllByRecursion P) (sym (reverse-cons x xs))
-    (all_append P (reverse xs) (x ∷ []) (all_reversed P xs a.1) (a.0, tt))
+    (AllByRecursion-append P (reverse xs) (x ∷ []) (all_reversed P xs a.1) (a.0, tt))
 
 -- a list is mapped and reversed in either order
 pub map_reversed : {A B : Type 0} (f : A → B) (xs : List A) → reverse (map f xs) ≡ map f (reverse xs)
@@ -48,11 +43,7 @@ pub find_mapped : {A B : Type 0} (f : A → B) (test : B → Bool) (test' : A �
     → AllByRecursion (λ x. test (f x) ≡ test' x) xs → find test (map f xs) ≡ option_map f (find test' xs)
 find_mapped f test test' [] a = refl
 find_mapped f test test' (x ∷ xs) a =
-    let rest = find_mapped f test test' xs a.1 in
-    elim (cases_Bool (test' x)) [
-      | inl e ↦ rw (a.0 ∙ e, e) refl
-      | inr e ↦ rw (a.0 ∙ e, e) rest
-    ]
+    let rest = find_mapped f test test' xs a.1 in let same = a.0 in grind arith
 
 -- the last of a mapped list is the mapped last
 pub last_mapped : {A B : Type 0} (f : A → B) (o : Option A) (xs : List A)
@@ -97,22 +88,14 @@ module _ {K V : Type 0} (less : K → K → Bool) (on : Chains less) where
       → pair_at less ps key ≡ by_key less key (first_pair less false key ps)
   pair_by_key key [] r = refl
   pair_by_key key (q ∷ qs) r =
-      let rest = pair_by_key key qs (rising_rest q qs r) in
-      elim (cases_Bool (less q.key key)) [
-        | inl f ↦ elim (cases_Bool (less key q.key)) [ inl y ↦ rw (f, y) rest | inr n ↦ rw (f, n) rest ]
-        | inr t ↦ elim (cases_Bool (less key q.key)) [
-          | inl y ↦ rw (t, y) (none_above key q qs r y)
-          | inr n ↦ rw (t, n) refl
-        ]
-      ]
+      let rest = pair_by_key key qs (rising_rest q qs r) in let none = none_above key q qs r in grind arith
 
 -- ---- removing a node
 
 -- a removed node is no longer in the list
 pub none_left : (n : ℕ) (ns : List ℕ) → is_in n (without n ns) ≡ false
 none_left n [] = refl
-none_left n (m ∷ ms) =
-    elim (cases_Bool (nat_eq n m)) [ inl t ↦ rw t (none_left n ms) | inr f ↦ rw (f, f) (none_left n ms) ]
+none_left n (m ∷ ms) = let rest = none_left n ms in grind arith
 
 -- pairs whose nodes are others
 pub other_nodes : {K V : Type 0} (n : ℕ) (ps : List (Pair K V)) → is_in n (nodes_of_pairs ps) ≡ false
@@ -129,20 +112,28 @@ not_among n [] a = refl
 not_among n (p ∷ ps) a = ap (λ (b : Bool). b || is_in n (nodes_of_pairs ps))
     (ne_eqb n (pair_node p) (λ e. a.0 (sym e))) ∙ not_among n ps a.1
 
--- the object's block is no node
-pub apart_all : {K V : Type 0} (kp : Plain K) (vp : Plain V) (live : LiveSet) (h : ℕ) (ps : List (Pair K V))
-    → AreIn kp vp live h ps → is_in h (nodes_of_pairs ps) ≡ false
-apart_all kp vp live h ps a = not_among h ps (each ps a (λ q i. i.apart))
+-- the pair of a node
+pub record AtNode {K V : Type 0} (P : Pair K V → Type 0) (m : ℕ) : Type 0 where
+  pub pair : Pair K V
+  pub holds : P pair
+  pub at : pair_node pair ≡ m
+
+-- a property of all pairs holds at the node of one
+pub at_node : {K V : Type 0} (P : Pair K V → Type 0) (ps : List (Pair K V)) (m : ℕ) → is_in m (nodes_of_pairs ps) ≡ true
+    → AllByRecursion P ps → AtNode P m
+at_node P [] m i a = absurd (false≢true i)
+at_node P (p ∷ ps) m i a =
+    elim (or_cases _ _ i) [
+      | inl e ↦ record { pair = p; holds = a.0; at = sym (eqb-true m (pair_node p) e) }
+      | inr e ↦ at_node P ps m e a.1
+    ]
 
 -- nodes of pairs that are all in a list
 pub in_from : {K V : Type 0} (ms : List ℕ) (ps : List (Pair K V)) → AllByRecursion (λ p. is_in (pair_node p) ms ≡ true)
     ps → (m : ℕ) → is_in m (nodes_of_pairs ps) ≡ true → is_in m ms ≡ true
-in_from ms [] a m i = absurd (false≢true i)
-in_from ms (p ∷ ps) a m i =
-    elim (or_cases _ _ i) [
-      | inl e ↦ ap (λ n. is_in n ms) (eqb-true m (pair_node p) e) ∙ a.0
-      | inr e ↦ in_from ms ps a.1 m e
-    ]
+in_from {K} {V} ms ps a m i =
+    let n = at_node (λ (p : Pair K V). is_in (pair_node p) ms ≡ true) ps m i a in
+    ap (λ k. is_in k ms) (sym n.at) ∙ n.holds
 
 -- each pair's node is among the nodes
 pub nodes_in : {K V : Type 0} (ms : List ℕ) (ps : List (Pair K V)) → ((m : ℕ) → is_in m (nodes_of_pairs ps) ≡ true
@@ -159,12 +150,7 @@ module _ {K V : Type 0} (less : K → K → Bool) where
       → is_in (pair_node p) (nodes_of_pairs ps) ≡ true
   in_nodes [] key p e = absurd (cc)
   in_nodes (q ∷ qs) key p e =
-      elim (cases_Bool (is_key less key q)) [
-        | inl y ↦
-            let same : p ≡ q = cc in
-            or_left _ _ (eq-eqb _ _ (ap pair_node same))
-        | inr z ↦ or_right _ _ (in_nodes qs key p (rw z at e))
-      ]
+      let rest = in_nodes qs key p in let own = eq-eqb (pair_node p) (pair_node p) refl in grind arith
 
   -- a property of all pairs holds for the pairs that remain
   pub removed_all : (P : Pair K V → Type 0) (ps : List (Pair K V)) (key : K) → AllByRecursion P ps
@@ -177,11 +163,7 @@ module _ {K V : Type 0} (less : K → K → Bool) where
   pub removed_length : (ps : List (Pair K V)) (key : K) (p : Pair K V) → pair_at less ps key ≡ Some p
       → length ps ≡ suc (length (remove_pair less ps key))
   removed_length [] key p e = absurd (cc)
-  removed_length (q ∷ qs) key p e =
-      elim (cases_Bool (is_key less key q)) [
-        | inl y ↦ rw y refl
-        | inr z ↦ rw z (ap suc (removed_length qs key p (rw z at e)))
-      ]
+  removed_length (q ∷ qs) key p e = let rest = removed_length qs key p in grind arith
 
   -- ---- rising
 
@@ -224,13 +206,9 @@ none_behind : {K V : Type 0} (less : K → K → Bool) → IsStrict less
     → (keys : ℕ → Option K) (q : Pair K V) (qs : List (Pair K V)) → keys (pair_node q) ≡ Some q.key → HaveKeys keys qs
     → Below less q.key qs → is_in (pair_node q) (nodes_of_pairs qs) ≡ false
 none_behind less strict keys q [] e k b = refl
-none_behind {K} {V} less strict keys q (p ∷ ps) e k b = ap (λ (x : Bool). x || is_in (pair_node q) (nodes_of_pairs ps))
-    (ne_eqb _ _ differs) ∙ none_behind less strict keys q ps e k.1 b.1
-  where
-    differs : pair_node q ≡ pair_node p → ⊥
-    differs f =
-        let same : Some q.key ≡ Some p.key = sym e ∙ ap keys f ∙ k.0 in let is : q.key ≡ p.key = cc same in
-        both_ways _ (ap (less q.key) (sym is) ∙ strict q.key) b.0
+none_behind less strict keys q (p ∷ ps) e k b =
+    let rest = none_behind less strict keys q ps e k.1 b.1 in let own = k.0 in let above = b.0 in
+    let not_self = strict q.key in grind arith
 
 module _ {K V : Type 0} (less : K → K → Bool) (strict : IsStrict less) (on : Chains less) (keys : ℕ → Option K) where
   -- the nodes without that of a pair
@@ -240,19 +218,8 @@ module _ {K V : Type 0} (less : K → K → Bool) (strict : IsStrict less) (on :
   without_nodes p key [] k r h = absurd (cc)
   without_nodes p key (q ∷ qs) k r h =
       let behind = none_behind less strict keys q qs k.0 k.1 (rising_below less on q qs r) in
-      elim (cases_Bool (is_key less key q)) [
-        | inl y ↦
-            let found = rw y at h in let same : p ≡ q = cc in
-            let here : is_in (pair_node p) (nodes_of_pairs qs) ≡ false =
-            ap (λ (x : Pair K V). is_in (pair_node x) (nodes_of_pairs qs)) same ∙ behind in
-            rw (eq-eqb _ _ (ap pair_node same), y) (without_none (pair_node p) (nodes_of_pairs qs) here)
-        | inr z ↦
-            let found = rw z at h in
-            let differs : pair_node p ≡ pair_node q → ⊥ =
-            λ e. both_ways _ (ap (λ n. is_in n (nodes_of_pairs qs)) e ∙ behind) (in_nodes less qs key p found) in
-            rw (ne_eqb _ _ differs, z)
-            (ap (λ ms. pair_node q ∷ ms) (without_nodes p key qs k.1 (rising_rest less on q qs r) found))
-      ]
+      let gone = without_none (pair_node q) (nodes_of_pairs qs) behind in let among = in_nodes less qs key p in
+      let rest = without_nodes p key qs k.1 (rising_rest less on q qs r) in grind arith
 
 pub either_one : (b c : Bool) → not (b || c) ≡ false → b ≡ false → c ≡ true
 either_one b c e f = rw f at (not-false (b || c) e)
@@ -296,11 +263,7 @@ module _ {K V : Type 0} (less : K → K → Bool) where
       → length (put_pair less p ps) ≡ suc (length ps)
   put_length p [] e = refl
   put_length p (q ∷ qs) e =
-      let two = absent_here p.key q qs e in
-      elim (cases_Bool (less p.key q.key)) [
-        | inl y ↦ rw y refl
-        | inr n ↦ rw (n, either_one _ _ two.0 n) (ap suc (put_length p qs two.1))
-      ]
+      let two = absent_here p.key q qs e in let one = two.0 in let rest = put_length p qs two.1 in grind arith
 
   -- keys still rise after a pair is put
   pub put_rising : Chains less → (p : Pair K V) (ps : List (Pair K V))
@@ -334,14 +297,10 @@ module _ {K V : Type 0} (less : K → K → Bool) where
         ≡ nodes_of_pairs (put_pair less p ps)
     put_nodes [] k e = refl
     put_nodes (q ∷ qs) k e =
-        let two = absent_here p.key q qs e in
+        let two = absent_here p.key q qs e in let one = two.0 in let rest = put_nodes qs k.1 two.1 in
         let same : comes_before less keys (pair_node p) (pair_node q) ≡ less p.key q.key = λ i.
         before_key less (own i) (k.0 i) in
-        elim (cases_Bool (less p.key q.key)) [
-          | inl y ↦ rw (same ∙ y, y) refl
-          | inr n ↦ rw (same ∙ n, n, either_one _ _ two.0 n)
-              (ap (λ (ms : List ℕ). pair_node q ∷ ms) (put_nodes qs k.1 two.1))
-        ]
+        grind arith
 
   -- ---- a pair in the place of another
 
@@ -349,11 +308,7 @@ module _ {K V : Type 0} (less : K → K → Bool) where
     -- the pair with the key is this one or comes after it
     later : (q : Pair K V) (qs : List (Pair K V)) → is_rising less (q ∷ qs) ≡ true
         → pair_at less (q ∷ qs) p'.key ≡ Some p → less p'.key q.key ≡ false
-    later q qs r e =
-        elim (cases_Bool (less p'.key q.key)) [
-          | inl y ↦ let f = rw y at e in let g = none_above less on p'.key q qs r y in absurd (cc)
-          | inr n ↦ n
-        ]
+    later q qs r e = let none = none_above less on p'.key q qs r in grind arith
 
     module _ (P Q : Pair K V → Type 0) (step : (q : Pair K V) → P q
         → (less p'.key q.key ≡ true) ⊎ (less q.key p'.key ≡ true) → Q q) (own : Q p') where
@@ -378,14 +333,7 @@ module _ {K V : Type 0} (less : K → K → Bool) where
         → pair_at less ps p'.key ≡ Some p → nodes_of_pairs (put_pair less p' ps) ≡ nodes_of_pairs ps
     replaced_nodes at [] r e = absurd (cc)
     replaced_nodes at (q ∷ qs) r e =
-        let n = later q qs r e in
-        elim (cases_Bool (less q.key p'.key)) [
-          | inl y ↦ rw (n, y) (ap (λ (ms : List ℕ). pair_node q ∷ ms)
-              (replaced_nodes at qs (rising_rest less on q qs r) (rw (n, y) at e)))
-          | inr z ↦
-              let is : p ≡ q = cc in
-              rw (n, z) (ap (λ (m : ℕ). m ∷ nodes_of_pairs qs) (at ∙ ap pair_node is))
-        ]
+        let n = later q qs r e in let rest = replaced_nodes at qs (rising_rest less on q qs r) in grind arith
 
     -- keys still rise with a pair put over another
     pub replaced_rising : (ps : List (Pair K V)) → is_rising less ps ≡ true → pair_at less ps p'.key ≡ Some p
@@ -411,31 +359,20 @@ pub known : (start o : Option ℕ) → start ≡ o → IfSome start (λ n. o ≡
 known None o e = tt
 known (Some n) o e = sym e
 
--- a property of the node that was found holds after the search is narrowed
-pub narrowed : (r f : Option ℕ) (P : ℕ → Type 0) → IfSome r (λ n. f ≡ Some n) → IfSome f P → IfSome r P
-narrowed None f P e h = tt
-narrowed (Some n) f P e h = let k = rw e at h in k
-
 -- ---- keys of nodes
 
 -- two ways to read keys that read the keys of the pairs agree on their nodes
 pub keys_agree : {K V : Type 0} (f g : ℕ → Option K) (ps : List (Pair K V)) → HaveKeys f ps → HaveKeys g ps → (m : ℕ)
     → is_in m (nodes_of_pairs ps) ≡ true → f m ≡ g m
-keys_agree f g [] k j m i = absurd (false≢true i)
-keys_agree f g (p ∷ ps) k j m i =
-    elim (or_cases _ _ i) [
-      | inl e ↦ let here = eqb-true m (pair_node p) e in ap f here ∙ k.0 ∙ sym (ap g here ∙ j.0)
-      | inr e ↦ keys_agree f g ps k.1 j.1 m e
-    ]
+keys_agree {K} {V} f g ps k j m i =
+    let n = at_node (λ (p : Pair K V). f (pair_node p) ≡ g (pair_node p)) ps m i
+    (each_both ps k j (λ p a b. a ∙ sym b)) in
+    subst (λ x. f x ≡ g x) n.at n.holds
 
 module _ {K : Type 0} (less : K → K → Bool) (irreflexive : IsStrict less) (transitive : Chains less) where
   -- if one of two keys is below the other, the other is not below it
   one_side : (x y : K) → not (less x y || less y x) ≡ false → less y x ≡ not (less x y)
-  one_side x y e =
-      elim (cases_Bool (less x y)) [
-        | inl a ↦ rw a (false_from_ne_true (less y x) (λ b. true≢false (sym (transitive x y x a b) ∙ irreflexive x)))
-        | inr a ↦ rw a (either_one _ _ e a)
-      ]
+  one_side x y e = let both = transitive x y x in let not_one = irreflexive x in grind arith
 
   -- the nodes that precede a key are the nodes that its node does not precede
   pub beside : {V : Type 0} (keys : ℕ → Option K) (p : Pair K V) → keys (pair_node p) ≡ Some p.key

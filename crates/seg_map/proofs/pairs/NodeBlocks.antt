@@ -1,22 +1,24 @@
 -- Blocks of nodes: reading them, and the parts that stay if one field of one node changes.
 use Rattle.seg_map.proofs.Common as common
 use common.{Memory, List, length, IsTrue, eq-eqb, Extent, word_at, current, link_at, LiveSet, is_kept, kept_of, keys_in}
-use common.{refl, false≢true, cases_Bool, is_live_in, beside_cell, lay_out_one, is_pair_node, links_among, comes_before}
-use common.{suc, handle, ne_eqb, Rising, nat_lt, nat_le, Option, IfSome, le-leb, lt-ltb, end_of, others, key_at, key_of}
-use common.{◌≡◌, ap, ◌+◌, ◌==◌, Some, find, read, lies, subst, Bool, true, false, None, SameBytes, is_in, leads}
-use common.{IsGoodNodeSet, Plain, ℕ, ◌-◌, ◌≤◌, inl, inr, ◌∷◌, In, [], sym, ◌∙◌, ◌%◌, ◌<◌, ◌⊎◌, WindowState, ◌&&◌}
-use common.{is_proper, room-less, both_ways, SameSurroundings, SameBytes-link, cell_stays, pair_cells, node_block}
+use common.{refl, false≢true, is_live_in, beside_cell, lay_out_one, is_pair_node, links_among, comes_before, suc}
+use common.{handle, ne_eqb, Rising, nat_lt, nat_le, Option, IfSome, le-leb, end_of, others, key_at, key_of, ◌≡◌, ap}
+use common.{◌+◌, ◌==◌, Some, find, read, lies, subst, Bool, true, false, None, SameBytes, is_in, leads, IsGoodNodeSet}
+use common.{Plain, ℕ, ◌-◌, ◌≤◌, inl, inr, ◌∷◌, In, [], sym, ◌∙◌, ◌%◌, ◌<◌, ◌⊎◌, WindowState, ◌&&◌, or_parts}
+use common.{SameBytesExcept, EncodesLiveSet, is_proper, room-less, both_ways, SameSurroundings, pair_cells, node_block}
 use common.{node_place, arith, eqb-true, leb-true, has_room, list_any, cases_eq, or_cases, or_right, ltb-true}
-use common.{ChangesBytes, SameBlock, and_parts, is_proper-IsProper, allocated-room, AllByRecursion}
-use common.{PairNode-is_pair_node, is_pair_node-PairNode, live_of, changed-room, if◌then◌else◌}
-use common.{SameBytesExcept-SameBytes, SameBytesExcept-word, SameBytesExcept-link, is_link_byte, stands_before, passing}
-use common.{or_left, bytes_of, all_from, cells_of, is_other, PairNode, cells_at, disjoint, value_in, not-true}
+use common.{ChangesBytes, and_parts, is_proper-IsProper, allocated-room, AllByRecursion, PairNode-is_pair_node}
+use common.{is_pair_node-PairNode, live_of, changed-room, if◌then◌else◌, SameBytesExcept-SameBytes}
+use common.{SameBytesExcept-word, SameBytesExcept-link, is_link_byte, stands_before, passing, or_left, bytes_of}
+use common.{all_from, cells_of, is_other, PairNode, cells_at, disjoint, value_in, not-true, ◌||◌, not}
 use Rattle.best_fit.proofs.Laws.{legal_size, others-here, others-past}
 use Rattle.best_fit.specs.{Heap.Recolours, Heap.is_node_in, Heap.is_node_role, FreeTree.is_red, Extents.holds}
-use Rattle.std.proofs.Math.Nat.{le_refl, le_trans, lt_of_lt_of_le}
-use Rattle.std.proofs.{lemmas.Bool.cases_lt, Common.zero, Common.◌/◌}
-use Rattle.seg_map.specs.PairLaws.{IsGoodNodeSet-is_good, NodeBounds, cells_off, link_parts, links_at, NodeBlock}
-use Rattle.seg_map.specs.{declared.reading.KeyProbe.KeyProbe, PairNodes.is_good}
+use Rattle.std.proofs.Math.Nat.{le_refl}
+use Rattle.std.proofs.{Common.zero, Common.◌/◌}
+use Rattle.seg_map.specs.PairLaws.{IsGoodNodeSet-is_good, link_parts, links_at, NodeBlock}
+use Rattle.seg_map.specs.{declared.reading.KeyProbe.KeyProbe, PairNodes.is_good, PairNodes.no_cell}
+use Rattle.seg_map.specs.PairNodes.{lies_in_block}
+use Rattle.std.proofs.lemmas.Bool.Decides.{nat_tests}
 use Rattle.raw_region.proofs.Laws.{SameBytes-read}
 use Rattle.link_tree.specs.{Nodes.with_left, Nodes.with_right, Nodes.with_red, Tree.Cell}
 
@@ -66,6 +68,12 @@ pub record Changed (len : ℕ) (ns : List ℕ) (c d : WindowState) (n : ℕ) : T
   pub others : (m : ℕ) → is_in m ns ≡ true → (m ≡ n → ⊥) → cells_of (bytes_of d.bytes) m ≡ cells_of (bytes_of c.bytes) m
   pub keys : (m : ℕ) → is_in m ns ≡ true → SameBytes (bytes_of c.bytes) (bytes_of d.bytes) (m + 16) (m + len)
 
+-- two values that are equal where a test holds
+where_true : {A : Type 0} (b : Bool) (z : A) {x y : A} → (b ≡ true → x ≡ y)
+    → (if b then x else z) ≡ (if b then y else z)
+where_true true z e = e refl
+where_true false z e = refl
+
 module _ {len : ℕ} {ns : List ℕ} {c d : WindowState} {n : ℕ} (g : PairNode len ns c n) (h : Changed len ns c d n) where
   links_d : (m : ℕ) → is_in m ns ≡ true → links_among (bytes_of d.bytes) ns m ≡ true
   links_d m i = by_place (cases_eq m n)
@@ -88,11 +96,9 @@ module _ {len : ℕ} {ns : List ℕ} {c d : WindowState} {n : ℕ} (g : PairNode
       IsGoodNodeSet-is_good len ns d good_stays ∙ sym (IsGoodNodeSet-is_good len ns c g.good)
       in λ i m. good i && is_in m ns
 
-  byte_stays : (k : ℕ) → (is_kept ns (live_of c.bytes) k ≡ true) ⊎ (is_kept ns (live_of c.bytes) k ≡ false)
-      → (if is_kept ns (live_of d.bytes) k then bytes_of d.bytes k else 0)
+  byte_stays : (k : ℕ) → (if is_kept ns (live_of d.bytes) k then bytes_of d.bytes k else 0)
       ≡ (if is_kept ns (live_of c.bytes) k then bytes_of c.bytes k else 0)
-  byte_stays k (inl t) = rw (h.live, t) (h.bytes k t)
-  byte_stays k (inr f) = rw (h.live, f) refl
+  byte_stays k = rw h.live (where_true (is_kept ns (live_of c.bytes) k) 0 (h.bytes k))
 
   other_colour : (k : ℕ) → is_other ns (live_of c.bytes) k ≡ true
       → word_at (bytes_of d.bytes) (k - 8) % 16 ≡ word_at (bytes_of c.bytes) (k - 8) % 16
@@ -104,11 +110,10 @@ module _ {len : ℕ} {ns : List ℕ} {c d : WindowState} {n : ℕ} (g : PairNode
       subst (λ a. word_at (bytes_of d.bytes) a % 16 ≡ word_at (bytes_of c.bytes) a % 16) w
       (h.colours l.extent l.listed (λ e. far (sym at ∙ e)))
 
-  colour_stays : (k : ℕ) → (is_other ns (live_of c.bytes) k ≡ true) ⊎ (is_other ns (live_of c.bytes) k ≡ false)
+  colour_stays : (k : ℕ)
       → (if is_other ns (live_of d.bytes) k then word_at (bytes_of d.bytes) (k - 8) % 16 else 0)
       ≡ (if is_other ns (live_of c.bytes) k then word_at (bytes_of c.bytes) (k - 8) % 16 else 0)
-  colour_stays k (inl t) = rw (h.live, t) (other_colour k t)
-  colour_stays k (inr f) = rw (h.live, f) refl
+  colour_stays k = rw h.live (where_true (is_other ns (live_of c.bytes) k) 0 (other_colour k))
 
   pub kept_stays : kept_of ns d ≡ kept_of ns c
   unfolding kept_of
@@ -119,22 +124,20 @@ module _ {len : ℕ} {ns : List ℕ} {c d : WindowState} {n : ℕ} (g : PairNode
         before = place.before i;
         after = place.after i;
         live = live i;
-        byte = λ k. byte_stays k (cases_Bool (is_kept ns (live_of c.bytes) k)) i;
-        colour = λ k. colour_stays k (cases_Bool (is_other ns (live_of c.bytes) k)) i;
+        byte = λ k. byte_stays k i;
+        colour = λ k. colour_stays k i;
       }
+
+  other_cell : (m : ℕ) → (m ≡ n → ⊥) → pair_cells len ns d m ≡ pair_cells len ns c m
+  unfolding pair_cells
+  other_cell m o = rw (ap (λ (p : ℕ → Bool). p m) nodes_stay) (where_true (is_pair_node len ns c m) no_cell (λ e.
+      h.others m (is_pair_node-PairNode len ns c m e).listed o))
 
   -- the cells after a change of one of them
   pub one_cell : (f : Cell → Cell) → cells_of (bytes_of d.bytes) n ≡ f (cells_of (bytes_of c.bytes) n)
       → pair_cells len ns d ≡ (λ (m : ℕ). if m == n then f (pair_cells len ns c m) else pair_cells len ns c m)
   one_cell f own = λ i m. at m (cases_eq m n) i
     where
-      other : (m : ℕ) → (m ≡ n → ⊥) → (is_pair_node len ns c m ≡ true) ⊎ (is_pair_node len ns c m ≡ false)
-          → pair_cells len ns d m ≡ pair_cells len ns c m
-      other m o (inl e) = cells_at len ns d m (ap (λ (p : ℕ → Bool). p m) nodes_stay ∙ e)
-          ∙ h.others m (is_pair_node-PairNode len ns c m e).listed o ∙ sym (cells_at len ns c m e)
-      other m o (inr e) = cells_off len ns d m (ap (λ (p : ℕ → Bool). p m) nodes_stay ∙ e)
-          ∙ sym (cells_off len ns c m e)
-
       here : pair_cells len ns d n ≡ f (pair_cells len ns c n)
       here =
           let e = PairNode-is_pair_node len ns c n g in
@@ -143,24 +146,20 @@ module _ {len : ℕ} {ns : List ℕ} {c d : WindowState} {n : ℕ} (g : PairNode
       at : (m : ℕ) → (m ≡ n) ⊎ (m ≡ n → ⊥) → pair_cells len ns d m
           ≡ (if m == n then f (pair_cells len ns c m) else pair_cells len ns c m)
       at m (inl e) = rw (eq-eqb _ _ e, e) here
-      at m (inr o) = rw (ne_eqb _ _ o) (other m o (cases_Bool (is_pair_node len ns c m)))
+      at m (inr o) = rw (ne_eqb _ _ o) (other_cell m o)
 
 -- ---- the keys stay
 
 module _ {K : Type 0} (value : List ℕ → Option K) (size : ℕ) {ns : List ℕ} {c d : WindowState} {n : ℕ}
     (g : PairNode (16 + size) ns c n) (h : Changed (16 + size) ns c d n) where
-  key_stays : (m : ℕ) → (is_pair_node (16 + size) ns c m ≡ true) ⊎ (is_pair_node (16 + size) ns c m ≡ false)
-      → key_of value size ns d m ≡ key_of value size ns c m
+  key_stays : (m : ℕ) → key_of value size ns d m ≡ key_of value size ns c m
   unfolding key_of key_at
-  key_stays m (inl e) = rw (
-    ap (λ (p : ℕ → Bool). p m) (nodes_stay g h) ∙ e,
-    e,
-  ) (ap value (SameBytes-read _ _ _ _ (m + 16)
-      size (h.keys m (is_pair_node-PairNode (16 + size) ns c m e).listed) (le_refl (m + 16)) (omega arith)))
-  key_stays m (inr e) = rw (ap (λ (p : ℕ → Bool). p m) (nodes_stay g h) ∙ e, e) refl
+  key_stays m = rw (ap (λ (p : ℕ → Bool). p m) (nodes_stay g h)) (where_true (is_pair_node (16 + size) ns c m) None
+      (λ e. ap value (SameBytes-read _ _ _ _ (m + 16) size
+      (h.keys m (is_pair_node-PairNode (16 + size) ns c m e).listed) (le_refl (m + 16)) (omega arith))))
 
   pub keys_stay : key_of value size ns d ≡ key_of value size ns c
-  keys_stay = λ i m. key_stays m (cases_Bool (is_pair_node (16 + size) ns c m)) i
+  keys_stay = λ i m. key_stays m i
 
 -- ---- conditions of the heap's calls on a node
 
@@ -186,23 +185,15 @@ leads_in len ns c (Some n) h = (is_pair_node-PairNode len ns c n h).listed
 -- a byte of a node's links is not kept
 kept_away : (ns : List ℕ) (live : LiveSet) (n k : ℕ) → is_in n ns ≡ true → is_kept ns live k ≡ true
     → (k < n) ⊎ (n + 16 ≤ k)
-kept_away ns live n k i t =
-    let two = and_parts _ _ t in let off = not-true (is_link_byte ns k) two.1 in
-    elim (cases_lt k n) [
-      | inl l ↦ inl l
-      | inr l ↦ elim (cases_lt k (n + 16)) [
-        | inl m ↦ absurd (both_ways _ off (link_byte ns i l m))
-        | inr m ↦ inr m
-      ]
-    ]
+kept_away ns live n k i t = off ns i (not-true (is_link_byte ns k) (and_parts _ _ t).1)
   where
-    link_byte : (ms : List ℕ) → is_in n ms ≡ true → n ≤ k → k < n + 16 → is_link_byte ms k ≡ true
-    link_byte [] j l m = absurd (false≢true j)
-    link_byte (m' ∷ ms) j l m =
+    off : (ms : List ℕ) → is_in n ms ≡ true → is_link_byte ms k ≡ false → (k < n) ⊎ (n + 16 ≤ k)
+    off [] j f = absurd (false≢true j)
+    off (m ∷ ms) j f =
+        let two = or_parts (nat_le m k && nat_lt k (m + 16)) (is_link_byte ms k) f in
         elim (or_cases _ _ j) [
-          | inl e ↦ let e' = eqb-true n m' e in or_left (nat_le m' k && nat_lt k (m' + 16)) (is_link_byte ms k)
-              (rw (le-leb m' k (omega arith), lt-ltb k (m' + 16) (omega arith)) refl)
-          | inr r ↦ or_right _ _ (link_byte ms r l m)
+          | inl e ↦ let same = eqb-true n m e in grind (arith, nat_tests, two.0, same)
+          | inr r ↦ off ms r two.1
         ]
 
 -- another block is apart from a node's payload
@@ -222,33 +213,47 @@ nodes_apart {len} {ns} {c} {n} {m} g h o =
     let p = node_place len ns c m h in let b = p.block in let at = b.at in
     grind (arith, block_apart b.extent g b.listed (λ e. o (sym at ∙ e)))
 
--- ---- a link is set
+-- ---- a field of a node is set
 
--- the links of a node are these now, and nothing else changes
-record LinksSet (len : ℕ) (ns : List ℕ) (c d : WindowState) (n : ℕ) (left right : Option ℕ) : Type 0 where
-  own : cells_of (bytes_of d.bytes) n ≡ record { left = left; right = right; red = is_red (bytes_of c.bytes) n }
-  changed : Changed len ns c d n
+module _ {len : ℕ} {ns : List ℕ} (c d : WindowState) {n from : ℕ} (g : PairNode len ns c n)
+    (rest : SameBytesExcept (bytes_of c.bytes) (bytes_of d.bytes) from 8) (long : 16 ≤ len) (low : n ≤ from + 8)
+    (high : from + 8 ≤ n + 16) where
+  -- no byte of the field is kept
+  outside : (k : ℕ) → is_kept ns (live_of c.bytes) k ≡ true → (k < from) ⊎ (from + 8 ≤ k)
+  outside k t =
+      let two = and_parts (nat_lt k 24 || (nat_le 32 k && nat_lt k 128) || lies_in_block (live_of c.bytes) k)
+      (not (is_link_byte ns k)) t in
+      let least = (node_place len ns c n g).low in
+      let off = kept_away ns (live_of c.bytes) n k g.listed t in
+      elim (or_cases (nat_lt k 24 || (nat_le 32 k && nat_lt k 128)) (lies_in_block (live_of c.bytes) k) two.0) [
+        | inl e ↦ elim (or_cases (nat_lt k 24) (nat_le 32 k && nat_lt k 128) e) [
+          | inl l ↦ let less = ltb-true k 24 l in inl (omega arith)
+          | inr l ↦ let less = ltb-true k 128 (and_parts (nat_le 32 k) (nat_lt k 128) l).1 in inl (omega arith)
+        ]
+        | inr e ↦
+            let b = passing (λ (x : Extent). nat_le (handle x) k && nat_lt k (end_of x)) (live_of c.bytes).extents e in
+            let both = and_parts (nat_le (handle b.extent) k) (nat_lt k (end_of b.extent)) b.passes in
+            let first = leb-true (handle b.extent) k both.0 in
+            let last = ltb-true k (end_of b.extent) both.1 in
+            elim (cases_eq (handle b.extent) n) [
+              | inl f ↦ grind (arith, off, f, first)
+              | inr o ↦ grind (arith, block_apart b.extent g b.listed o, first, last)
+            ]
+      ]
 
-module _ {len : ℕ} {ns : List ℕ} {c d : WindowState} {n from : ℕ} (g : PairNode len ns c n)
-    (change : ChangesBytes current c d from 8) (long : 16 ≤ len) (low : n ≤ from) (high : from + 8 ≤ n + 16) where
-  p : NodeBounds len c n
-  p = node_place len ns c n g
-
-  other_cell : (m : ℕ) → is_in m ns ≡ true → (m ≡ n → ⊥) → cells_of (bytes_of d.bytes) m ≡ cells_of (bytes_of c.bytes) m
-  other_cell m i o =
-      let q : PairNode len ns c m = record { good = g.good; listed = i } in let least = (node_place len ns c m q).low in
-      beside_cell _ _ _ _ m change.rest least (grind (arith, nodes_apart g q o))
-
-  link_changed : links_among (bytes_of d.bytes) ns n ≡ true → Changed len ns c d n
-  link_changed links = record {
-    place = change.place;
-    live = lay_out_one _ _ _ change.live;
-    bytes = λ k t. change.rest.at k (elim (kept_away ns (live_of c.bytes) n k g.listed t)
-        [ inl l ↦ inl (lt_of_lt_of_le l low) | inr l ↦ inr (le_trans high l) ]);
-    colours = λ x i o. ap (λ w. w % 16) (SameBytesExcept-word _ _ _ _ (x.offset + 8) change.rest (tag_apart x i o));
+  pub field_changed : SameSurroundings c d → EncodesLiveSet current d.bytes (live_of c.bytes)
+      → links_among (bytes_of d.bytes) ns n ≡ true → Changed len ns c d n
+  field_changed place live links = record {
+    place = place;
+    live = lay_out_one _ _ _ live;
+    bytes = λ k t. rest.at k (outside k t);
+    colours = λ x i o. ap (λ w. w % 16) (SameBytesExcept-word _ _ _ _ (x.offset + 8) rest (tag_apart x i o));
     links = links;
-    others = other_cell;
-    keys = λ m i. SameBytesExcept-SameBytes _ _ _ _ (m + 16) (m + len) change.rest (key_apart m i (cases_eq m n));
+    others = λ m i o.
+        let q : PairNode len ns c m = record { good = g.good; listed = i } in
+        let least = (node_place len ns c m q).low in
+        beside_cell _ _ _ _ m rest least (grind (arith, nodes_apart g q o));
+    keys = λ m i. SameBytesExcept-SameBytes _ _ _ _ (m + 16) (m + len) rest (key_apart m i (cases_eq m n));
   }
     where
       tag_apart : (x : Extent) → In x (live_of c.bytes).extents → (handle x ≡ n → ⊥)
@@ -263,22 +268,7 @@ module _ {len : ℕ} {ns : List ℕ} {c d : WindowState} {n from : ℕ} (g : Pai
       key_apart m i (inr o) =
           let q : PairNode len ns c m = record { good = g.good; listed = i } in grind (arith, nodes_apart g q o)
 
-  -- both links are known then
-  links_set : {left right : Option ℕ} → link_at (bytes_of d.bytes) n ≡ left → link_at (bytes_of d.bytes) (n + 8) ≡ right
-      → leads (λ k. is_in k ns) left ≡ true → leads (λ k. is_in k ns) right ≡ true → LinksSet len ns c d n left right
-  links_set {left} {right} l r l_in r_in =
-      let least = p.low in
-      let red = ap (λ w. w / 2 % 2 == 1) (SameBytesExcept-word _ _ _ _ (n - 8) change.rest (inl (omega arith))) in
-      let own : cells_of (bytes_of d.bytes) n
-      ≡ record { left = left; right = right; red = is_red (bytes_of c.bytes) n } = λ i.
-      record { left = l i; right = r i; red = red i } in
-      record {
-        own = own;
-        changed = link_changed (subst (λ (x : Cell). (leads (λ k. is_in k ns) x.left && leads (λ k. is_in k ns) x.right)
-            ≡ true) (sym own) (rw (l_in, r_in) refl));
-      }
-
--- ---- a colour is set
+-- ---- lists of extents
 
 -- an extent with another handle is among the others
 pub in_others : (h : ℕ) (x : Extent) (xs : List Extent) → In x xs → (handle x ≡ h → ⊥) → In x (others h xs)
@@ -298,74 +288,6 @@ all_in P [] x a i = absurd i
 all_in P (y ∷ ys) x a (inl e) = subst P e a.0
 all_in P (y ∷ ys) x a (inr i) = all_in P ys x a.1 i
 
--- words that agree in their last four bits have one colour
-pub same_red : (v w : ℕ) → w % 16 ≡ v % 16 → (w / 2 % 2 == 1) ≡ (v / 2 % 2 == 1)
-same_red v w e = let f : w / 2 % 2 ≡ v / 2 % 2 = omega arith in ap (λ k. k == 1) f
-
-module _ {len : ℕ} {ns : List ℕ} {c d : WindowState} {n : ℕ} {red : Bool} (g : PairNode len ns c n)
-    (change : Recolours current c d n red) (long : 16 ≤ len) where
-  same_payload : (x : Extent) → In x (live_of c.bytes).extents
-      → SameBytes (bytes_of c.bytes) (bytes_of d.bytes) (handle x) (end_of x)
-  same_payload x i = all_in (λ (y : Extent). SameBytes (bytes_of c.bytes) (bytes_of d.bytes) (handle y) (end_of y))
-      (live_of c.bytes).extents x change.payloads i
-
-  node_same : (m : ℕ) → PairNode len ns c m → SameBytes (bytes_of c.bytes) (bytes_of d.bytes) m (m + len)
-  node_same m q =
-      let b = node_block len ns c m q in let at = b.at in
-      let s = same_payload b.extent b.listed in record { at = λ k l h. s.at k (omega arith) (omega arith) }
-
-  left_link : (m : ℕ) → PairNode len ns c m → link_at (bytes_of d.bytes) m ≡ link_at (bytes_of c.bytes) m
-  left_link m q = SameBytes-link _ _ _ _ m (node_same m q) (le_refl m) (omega arith)
-
-  right_link : (m : ℕ) → PairNode len ns c m → link_at (bytes_of d.bytes) (m + 8) ≡ link_at (bytes_of c.bytes) (m + 8)
-  right_link m q = SameBytes-link _ _ _ _ (m + 8) (node_same m q) (omega arith) (omega arith)
-
-  red_own : cells_of (bytes_of d.bytes) n ≡ record (cells_of (bytes_of c.bytes) n) { red = red }
-  red_own = let a = left_link n g in let b = right_link n g in let r = change.colour in λ i.
-      record { left = a i; right = b i; red = r i }
-
-  colour_at : (x : Extent) → In x (live_of c.bytes).extents → (handle x ≡ n → ⊥)
-      → word_at (bytes_of d.bytes) (x.offset + 8) % 16 ≡ word_at (bytes_of c.bytes) (x.offset + 8) % 16
-  colour_at x i o = (all_in (SameBlock (bytes_of c.bytes) (bytes_of d.bytes))
-      (others n (live_of c.bytes).extents) x change.keeps.blocks (in_others n x (live_of c.bytes).extents i o)).colour
-
-  other_red : (m : ℕ) → PairNode len ns c m → (m ≡ n → ⊥) → is_red (bytes_of d.bytes) m ≡ is_red (bytes_of c.bytes) m
-  other_red m q o =
-      let b = node_block len ns c m q in let at = b.at in let w : b.extent.offset + 8 ≡ m - 8 = omega arith in
-      let e = subst (λ a. word_at (bytes_of d.bytes) a % 16 ≡ word_at (bytes_of c.bytes) a % 16) w
-      (colour_at b.extent b.listed (λ f. o (sym at ∙ f))) in
-      same_red (word_at (bytes_of c.bytes) (m - 8)) (word_at (bytes_of d.bytes) (m - 8)) e
-
-  byte_kept : (k : ℕ) → is_kept ns (live_of c.bytes) k ≡ true → bytes_of d.bytes k ≡ bytes_of c.bytes k
-  byte_kept k t =
-      let two = and_parts _ _ t in
-      elim (or_cases _ _ two.0) [
-        | inl e ↦ elim (or_cases _ _ e) [
-          | inl l ↦ change.keeps.front.at k (omega arith) (ltb-true k 24 l)
-          | inr l ↦ let both = and_parts _ _ l in change.keeps.behind.at k (leb-true 32 k both.0)
-              (ltb-true k 128 both.1)
-        ]
-        | inr e ↦
-            let b = passing (λ (x : Extent). nat_le (handle x) k && nat_lt k (end_of x)) (live_of c.bytes).extents e in
-            let both = and_parts _ _ b.passes in
-            (same_payload b.extent b.listed).at k (leb-true (handle b.extent) k both.0)
-            (ltb-true k (end_of b.extent) both.1)
-      ]
-
-  pub red_changed : Changed len ns c d n
-  red_changed = record {
-    place = change.keeps.place;
-    live = lay_out_one _ _ _ change.live;
-    bytes = byte_kept;
-    colours = colour_at;
-    links = subst (λ (x : Cell). (leads (λ k. is_in k ns) x.left && leads (λ k. is_in k ns) x.right) ≡ true)
-        (sym red_own) (links_at len ns c n g);
-    others = λ m i o. let q : PairNode len ns c m = record { good = g.good; listed = i } in
-        cell_stays (bytes_of c.bytes) (bytes_of d.bytes) m (left_link m q) (right_link m q) (other_red m q o);
-    keys = λ m i. let s = node_same m (record { good = g.good; listed = i }) in
-        record { at = λ k l h. s.at k (omega arith) h };
-  }
-
 -- ---- the effect of a setter
 
 -- the nodes that precede the probe
@@ -382,17 +304,26 @@ pub record IsSet {K : Type 0} (k : Plain K) (ns : List ℕ) (c d : WindowState) 
 
 module _ {K : Type 0} (k : Plain K) {ns : List ℕ} {c : WindowState} {n : ℕ} (g : PairNode (16 + k.SIZE) ns c n)
     {d : WindowState} where
-  set : (cells : ℕ → Cell) → Changed (16 + k.SIZE) ns c d n → pair_cells (16 + k.SIZE) ns d ≡ cells
-      → IsSet k ns c d cells
-  set cells change is =
+  set : (f : Cell → Cell) {from : ℕ} → SameBytesExcept (bytes_of c.bytes) (bytes_of d.bytes) from 8 → n ≤ from + 8
+      → from + 8 ≤ n + 16 → SameSurroundings c d → EncodesLiveSet current d.bytes (live_of c.bytes)
+      → cells_of (bytes_of d.bytes) n ≡ f (cells_of (bytes_of c.bytes) n) → links_among (bytes_of d.bytes) ns n ≡ true
+      → IsSet k ns c d (λ (m : ℕ). let was = pair_cells (16 + k.SIZE) ns c m in if m == n then f was else was)
+  set f rest low high place live own links =
+      let change = field_changed c d g rest (omega arith) low high place live links in
       let keys = keys_stay (value_in k.reading k.is_value k.spelling) k.SIZE g change in
       record {
-        cells = is;
+        cells = one_cell g change f own;
         nodes = nodes_stay g change;
         order = λ i. comes_before k.order (keys i);
         probe = λ i wanted. stands_before k.order (keys i) wanted.past wanted.key;
         kept = kept_stays g change;
       }
+
+  red_stays : {from : ℕ} → ChangesBytes current c d from 8 → n ≤ from
+      → is_red (bytes_of d.bytes) n ≡ is_red (bytes_of c.bytes) n
+  red_stays change begins =
+      let least = (node_place (16 + k.SIZE) ns c n g).low in
+      ap (λ w. w / 2 % 2 == 1) (SameBytesExcept-word _ _ _ _ (n - 8) change.rest (inl (omega arith)))
 
   module _ (to : Option ℕ) (target : leads (is_pair_node (16 + k.SIZE) ns c) to ≡ true) where
     -- writing the left link changes only this field of the cell
@@ -402,9 +333,10 @@ module _ {K : Type 0} (k : Plain K) {ns : List ℕ} {c : WindowState} {n : ℕ} 
     left_set left change =
         let e : n + 0 ≡ n = omega arith in let one = rw e at left in
         let right = SameBytesExcept-link _ _ _ _ (n + 8) change.rest (inr (omega arith)) in
-        let o = links_set g change (omega arith) (omega arith) (omega arith) one right
-        (leads_in (16 + k.SIZE) ns c to target) (link_parts g).1 in
-        set _ o.changed (one_cell g o.changed (λ (x : Cell). record x { left = to }) o.own)
+        let red = red_stays change (omega arith) in
+        set (λ (x : Cell). record x { left = to }) change.rest (omega arith) (omega arith) change.place change.live
+        (λ i. record { left = one i; right = right i; red = red i })
+        (rw (one, right, leads_in (16 + k.SIZE) ns c to target, (link_parts g).1) refl)
 
     -- writing the right link changes only this field of the cell
     pub right_set : link_at (bytes_of d.bytes) (n + 8) ≡ to → ChangesBytes current c d (n + 8) 8
@@ -412,17 +344,22 @@ module _ {K : Type 0} (k : Plain K) {ns : List ℕ} {c : WindowState} {n : ℕ} 
     unfolding with_right
     right_set right change =
         let left = SameBytesExcept-link _ _ _ _ n change.rest (inl (omega arith)) in
-        let o = links_set g change (omega arith) (omega arith) (omega arith) left right (link_parts g).0
-        (leads_in (16 + k.SIZE) ns c to target) in
-        set _ o.changed (one_cell g o.changed (λ (x : Cell). record x { right = to }) o.own)
+        let red = red_stays change (omega arith) in
+        set (λ (x : Cell). record x { right = to }) change.rest (omega arith) (omega arith) change.place change.live
+        (λ i. record { left = left i; right = right i; red = red i })
+        (rw (left, right, leads_in (16 + k.SIZE) ns c to target, (link_parts g).0) refl)
 
   -- writing the colour changes only this field of the cell
   pub red_set : {red : Bool} → Recolours current c d n red
       → IsSet k ns c d (with_red (pair_cells (16 + k.SIZE) ns c) n red)
   unfolding with_red
   red_set {red} change =
-      let changed = red_changed g change (omega arith) in
-      set _ changed (one_cell g changed (λ (x : Cell). record x { red = red }) (red_own g change (omega arith)))
+      let least = (node_place (16 + k.SIZE) ns c n g).low in let colour = change.colour in
+      let left = SameBytesExcept-link _ _ _ _ n change.rest (inr (omega arith)) in
+      let right = SameBytesExcept-link _ _ _ _ (n + 8) change.rest (inr (omega arith)) in
+      set (λ (x : Cell). record x { red = red }) change.rest (omega arith) (omega arith) change.keeps.place change.live
+      (λ i. record { left = left i; right = right i; red = colour i })
+      (rw (left, right, (link_parts g).0, (link_parts g).1) refl)
 
 -- ---- reads of a node
 

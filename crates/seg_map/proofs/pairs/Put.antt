@@ -1,22 +1,22 @@
 -- What is written of a map, and pairs that are put.
 use Rattle.seg_map.proofs.Common as common
-use common.{◌≡◌, true, Node, Bool, ◌||◌, List, Some, roomy, Pair, ◌&&◌, leads, IsGoodNodeSet, SameBytes, KeepsBlocks}
-use common.{refl, AllocatesOk, comes_before, is_pair_node, links_among, beside_cell, changed-room, subst, entry_in}
-use common.{eqb-true, or_cases, or_right, all_from, cells_of, Relinked, cases_eq, ◌∙◌, ◌+◌, ◌%◌, inl, WindowState, ◌≤◌}
-use common.{HasBytesAt, sym, ap, ◌≢◌, inr, not, ◌∷◌, Tree, insert_in_order, ◌⊎◌, ℕ, arith, Plain, false, ne_eqb, is_in}
-use common.{Extent}
-use common.{handle, stands, length, eq-eqb, others, IsTrue, Option, EncodesLiveSet, live_of, AllocatesNodeOk, IfSome}
-use common.{pair_at, keys_in, IsUnlinkedPair, or_left, None, ChangesBytes, laid-heap, entry_same, SameBlock, live-rises}
-use common.{found-room, node_place, current, word_at, link_at, IsPairAt, put_pair, IsPairIn, PairNode, or_parts}
-use common.{not-true, bytes_of, extent_at, LinksPairOk, and_parts, is_ordered_with, pair_node, own_nodes, IsKeyTree}
-use common.{SameBytesExcept-word, SameBytesExcept-link, changed-live, SameBytesExcept-SameBytes, AllByRecursion}
-use common.{changed-keeps, SameSurroundings-trans, allocated-room, nodes_of_pairs, stands_before, PairNode-is_pair_node}
-use common.{leaf, has_room, WritesMapHeader, HasBytesAt-same, node_len, nodes_of, insert_point_of, HoldsMap, both_ways}
+use common.{◌≡◌, true, Node, Bool, ◌||◌, List, Some, roomy, Pair, leads, IsGoodNodeSet, SameBytes, KeepsBlocks, refl}
+use common.{AllocatesOk, comes_before, is_pair_node, links_among, beside_cell, changed-room, subst, entry_in, eqb-true}
+use common.{or_cases, or_right, all_from, cells_of, Relinked, cases_eq, ◌∙◌, ◌+◌, ◌%◌, inl, WindowState, ◌≤◌}
+use common.{HasBytesAt, sym, ap, ◌≢◌, inr, not, ◌∷◌, insert_in_order, ◌⊎◌, ℕ, arith, Plain, false, ne_eqb, is_in}
+use common.{Extent, handle, stands, length, eq-eqb, others, IsTrue, Option, EncodesLiveSet, live_of, AllocatesNodeOk}
+use common.{IfSome, pair_at, keys_in, IsUnlinkedPair, or_left, None, ChangesBytes, laid-heap, entry_same, SameBlock}
+use common.{live-rises, found-room, node_place, current, word_at, link_at, IsPairAt, put_pair, IsPairIn, PairNode}
+use common.{or_parts, not-true, bytes_of, extent_at, LinksPairOk, and_parts, is_ordered_with, pair_node, own_nodes}
+use common.{IsKeyTree, SameBytesExcept-word, SameBytesExcept-link, changed-live, SameBytesExcept-SameBytes}
+use common.{AllByRecursion, changed-keeps, SameSurroundings-trans, allocated-room, nodes_of_pairs, stands_before}
+use common.{PairNode-is_pair_node, leaf, has_room, WritesMapHeader, HasBytesAt-same, node_len, nodes_of}
+use common.{insert_point_of, HoldsMap, both_ways}
 use Rattle.seg_map.proofs.pairs.SearchTree.{other_block, Laws, found_in, keys, good, keys_among, key_is, pair_block}
-use Rattle.seg_map.proofs.pairs.SearchTree.{pair_parts}
-use Rattle.seg_map.proofs.pairs.SearchTree.{tree_among, with_bytes}
-use Rattle.seg_map.proofs.pairs.Frame.{at_node, block_cells, map_over, pair_stays, beside_then, keeps_beside, map_stays}
+use Rattle.seg_map.proofs.pairs.SearchTree.{pair_parts, tree_among, with_bytes}
+use Rattle.seg_map.proofs.pairs.Frame.{map_over, pair_stays, beside_then, keeps_beside, map_stays}
 use Rattle.seg_map.proofs.{pairs.Frame.relaid, pairs.Lookup.lent_own, pairs.NodeBlocks.all_in}
+use Rattle.seg_map.proofs.{pairs.NodeBlocks.block_apart}
 use Rattle.seg_map.proofs.pairs.Lists.{replaced_nodes, replaced_rising, in_nodes, not_among, place_of, put_all}
 use Rattle.seg_map.proofs.pairs.Lists.{put_length, put_nodes, put_rising, HaveKeys, keys_agree, known}
 use Rattle.seg_map.proofs.pairs.Lists.{beside as not_beside, each, each_both, pair_of, replaced_all}
@@ -86,46 +86,37 @@ still : {a b c : WindowState} {n node from k : ℕ} (room : ℕ) → AllocatesOk
 still {a} {b} {c} {n} {node} {from} {k} room new change long low high = still_allocated-block current a b c n Node node
     from k room new change (allocated-room _ _ _ _ _ _ room new long) low high
 
-module _ {K V : Type 0} {kp : Plain K} (kl : Laws kp) (vp : Plain V) {a b : WindowState} {node : ℕ}
-    (new : AllocatesOk current a b (node_len kp.SIZE vp.SIZE) Node node) where
-  module _ {c : WindowState} (first : ChangesBytes current b c (node + 0) 8)
-      (left : link_at (bytes_of c.bytes) (node + 0) ≡ None) where
-    one : AllocatesOk current a c (node_len kp.SIZE vp.SIZE) Node node
-    one = still 16 new first (omega arith) (omega arith) (omega arith)
-
-    module _ {d : WindowState} (second : ChangesBytes current c d (node + 8) 8)
-        (right : link_at (bytes_of d.bytes) (node + 8) ≡ None) where
-      two : AllocatesOk current a d (node_len kp.SIZE vp.SIZE) Node node
-      two = still 16 one second (omega arith) (omega arith) (omega arith)
-
-      module _ {e : WindowState} {key : K} (is_key : kp.is_value key ≡ true)
-          (third : ChangesBytes current d e (node + 16) kp.SIZE)
-          (spelled : HasBytesAt (bytes_of e.bytes) (node + 16) (kp.spelling key)) where
-        three : AllocatesOk current a e (node_len kp.SIZE vp.SIZE) Node node
-        three = still (16 + kp.SIZE) two third (omega arith) (omega arith) (omega arith)
-
-        pub made : {f : WindowState} (value : V) → vp.is_value value ≡ true
-            → ChangesBytes current e f (node + (16 + kp.SIZE)) vp.SIZE
-            → HasBytesAt (bytes_of f.bytes) (node + (16 + kp.SIZE)) (vp.spelling value)
-            → AllocatesNodeOk kp vp a f key value node
-        made {f} value is_value fourth there =
-            let begin : node + 0 ≡ node = omega arith in
-            let behind : node + (16 + kp.SIZE) ≡ node + 16 + kp.SIZE = omega arith in
-            record {
-              block = still (16 + kp.SIZE + vp.SIZE) three fourth (omega arith) (omega arith) (omega arith);
-              left = SameBytesExcept-link _ _ _ _ node fourth.rest (inl (omega arith))
-                  ∙ SameBytesExcept-link _ _ _ _ node third.rest
-                  (inl (omega arith)) ∙ SameBytesExcept-link _ _ _ _ node second.rest (inl (omega arith))
-                  ∙ subst (λ k. link_at (bytes_of c.bytes) k ≡ None) begin left;
-              right = SameBytesExcept-link _ _ _ _ (node + 8) fourth.rest (inl (omega arith))
-                  ∙ SameBytesExcept-link _ _ _ _ (node + 8) third.rest (inl (omega arith)) ∙ right;
-              is_a_key = is_key;
-              is_a_value = is_value;
-              key_there = HasBytesAt-same _ _ _ _ (node + 16) (kp.spelling key)
-                  (SameBytesExcept-SameBytes _ _ _ _ (node + 16)
-                  (node + 16 + kp.SIZE) fourth.rest (inl (omega arith))) (omega arith) (omega arith) spelled;
-              value_there = subst (λ k. HasBytesAt (bytes_of f.bytes) k (vp.spelling value)) behind there;
-            }
+-- the links, the key and the value are written one after another
+pub made : {K V : Type 0} {kp : Plain K} → Laws kp → (vp : Plain V) {a b c d e f : WindowState} {node : ℕ}
+    → AllocatesOk current a b (node_len kp.SIZE vp.SIZE) Node node → ChangesBytes current b c (node + 0) 8
+    → link_at (bytes_of c.bytes) (node + 0) ≡ None → ChangesBytes current c d (node + 8) 8
+    → link_at (bytes_of d.bytes) (node + 8) ≡ None → {key : K} → kp.is_value key ≡ true
+    → ChangesBytes current d e (node + 16) kp.SIZE → HasBytesAt (bytes_of e.bytes) (node + 16) (kp.spelling key)
+    → (value : V) → vp.is_value value ≡ true → ChangesBytes current e f (node + (16 + kp.SIZE)) vp.SIZE
+    → HasBytesAt (bytes_of f.bytes) (node + (16 + kp.SIZE)) (vp.spelling value)
+    → AllocatesNodeOk kp vp a f key value node
+made {kp = kp} kl vp {c = c} {f = f} {node = node} new first left second right {key} is_key third spelled value is_value
+    fourth there =
+    let begin : node + 0 ≡ node = omega arith in
+    let behind : node + (16 + kp.SIZE) ≡ node + 16 + kp.SIZE = omega arith in
+    let long = kl.spells key is_key in
+    let one = still 16 new first (omega arith) (omega arith) (omega arith) in
+    let two = still 16 one second (omega arith) (omega arith) (omega arith) in
+    let three = still (16 + kp.SIZE) two third (omega arith) (omega arith) (omega arith) in
+    record {
+      block = still (16 + kp.SIZE + vp.SIZE) three fourth (omega arith) (omega arith) (omega arith);
+      left = SameBytesExcept-link _ _ _ _ node fourth.rest (inl (omega arith))
+          ∙ SameBytesExcept-link _ _ _ _ node third.rest (inl (omega arith))
+          ∙ SameBytesExcept-link _ _ _ _ node second.rest (inl (omega arith))
+          ∙ subst (λ k. link_at (bytes_of c.bytes) k ≡ None) begin left;
+      right = SameBytesExcept-link _ _ _ _ (node + 8) fourth.rest (inl (omega arith))
+          ∙ SameBytesExcept-link _ _ _ _ (node + 8) third.rest (inl (omega arith)) ∙ right;
+      is_a_key = is_key;
+      is_a_value = is_value;
+      key_there = HasBytesAt-same _ _ _ _ (node + 16) (kp.spelling key) (SameBytesExcept-SameBytes _ _ _ _ (node + 16)
+          (node + 16 + kp.SIZE) fourth.rest (inl (omega arith))) (omega arith) (omega (arith, long)) spelled;
+      value_there = subst (λ k. HasBytesAt (bytes_of f.bytes) k (vp.spelling value)) behind there;
+    }
 
 -- ---- a new pair: its node is made, and enters the map
 
@@ -226,16 +217,6 @@ module _ {K V : Type 0} {kp : Plain K} {vp : Plain V} (kl : Laws kp) (vl : Laws 
 
 -- ---- a pair whose node is made enters the map
 
--- a node that has a place in the tree, and is linked there, beginning at the root or at its entry
-pub record CanLink {K : Type 0} (k : Plain K) (ns : List ℕ) (c : WindowState) (root start : Option ℕ) (node : ℕ) :
-    Type 0 where
-  pub shape : Tree
-  pub tree : IsKeyTree k ns c root shape
-  pub own : is_pair_node (16 + k.SIZE) ns c node ≡ true
-  pub place : is_ordered_with (comes_before k.order (keys_in k ns c)) node (nodes_of shape) ≡ true
-  pub begins : IfSome start (λ n. insert_point_of (λ m. not (comes_before k.order (keys_in k ns c) node m)) shape
-      ≡ Some n)
-
 -- a link to a node of the list is a link to a node of a longer list
 leads_more : (n : ℕ) (ns : List ℕ) (o : Option ℕ) → leads (λ j. is_in j ns) o ≡ true
     → leads (λ j. is_in j (n ∷ ns)) o ≡ true
@@ -261,12 +242,7 @@ module _ {K V : Type 0} {kp : Plain K} {vp : Plain V} (kl : Laws kp) (c : Window
   links_all : (m : ℕ) → is_in m all ≡ true → links_among (bytes_of c.bytes) all m ≡ true
   links_all m i =
       elim (or_cases _ _ i) [
-        | inl e ↦
-            let at' = eqb-true m (pair_node p) e in
-            let a : (cells_of (bytes_of c.bytes) m).left ≡ None = ap (link_at (bytes_of c.bytes)) at' ∙ l.left in
-            let b : (cells_of (bytes_of c.bytes) m).right ≡ None =
-            ap (λ k. link_at (bytes_of c.bytes) (k + 8)) at' ∙ l.right in
-            (λ j. leads (λ k. is_in k all) (a j) && leads (λ k. is_in k all) (b j))
+        | inl e ↦ rw (eqb-true m (pair_node p) e, l.left, l.right) refl
         | inr e ↦
             let g = good kl c s in
             let two = and_parts _ _ (all_at (links_among (bytes_of c.bytes) ns) ns m g.links e) in
@@ -286,9 +262,6 @@ module _ {K V : Type 0} {kp : Plain K} {vp : Plain V} (kl : Laws kp) (c : Window
   node_all : (m : ℕ) → is_in m all ≡ true → is_pair_node (16 + kp.SIZE) all c m ≡ true
   node_all m i = PairNode-is_pair_node (16 + kp.SIZE) all c m (record { good = good_all; listed = i })
 
-  in_all : (m : ℕ) → is_in m ns ≡ true → is_in m all ≡ true
-  in_all m i = or_right _ _ i
-
   own_in : is_in (pair_node p) all ≡ true
   own_in = or_left _ _ (eq-eqb (pair_node p) (pair_node p) refl)
 
@@ -296,33 +269,36 @@ module _ {K V : Type 0} {kp : Plain K} {vp : Plain V} (kl : Laws kp) (c : Window
   own_key = key_is kl all c (node_all (pair_node p) own_in) l.block l.bytes
 
   keys_all : HaveKeys (keys_in kp all c) ps
-  keys_all = keys_among kl s good_all in_all
+  keys_all = keys_among kl s good_all (λ m i. or_right _ _ i)
 
   -- the pairs make a search tree still
   pub planted_tree : IsKeyTree kp lent c root s.map.tree.tree
-  planted_tree = rw (ns_is, is) (tree_among kl s good_all in_all)
+  planted_tree = rw (ns_is, is) (tree_among kl s good_all (λ m i. or_right _ _ i))
 
-  -- the node can be linked
-  pub can_link : (start : Option ℕ) → start ≡ entry_in kp c p.key s.map.tree.tree → CanLink kp lent c root start node
-  can_link start begins = rw (ns_is, ← here) (record {
-    shape = s.map.tree.tree;
-    tree = rw is (tree_among kl s good_all in_all);
-    own = node_all (pair_node p) own_in;
-    place = ap (is_ordered_with (comes_before kp.order (keys_in kp all c)) (pair_node p)) s.map.tree.lists
-        ∙ place_of kp.order (keys_in kp all c) p own_key ps keys_all l.absent;
+  -- the node can be linked, beginning at the root or at its entry
+  pub can_link : (start : Option ℕ) → start ≡ entry_in kp c p.key s.map.tree.tree
+      → IsKeyTree kp lent c root s.map.tree.tree × (is_pair_node (16 + kp.SIZE) lent c node ≡ true)
+      × (is_ordered_with (comes_before kp.order (keys_in kp lent c)) node (nodes_of s.map.tree.tree) ≡ true)
+      × IfSome start (λ n. insert_point_of (λ m. not (comes_before kp.order (keys_in kp lent c) node m))
+      s.map.tree.tree ≡ Some n)
+  can_link start begins = rw (ns_is, ← here) (
+    rw is (tree_among kl s good_all (λ m i. or_right _ _ i)),
+    node_all (pair_node p) own_in,
+    ap (is_ordered_with (comes_before kp.order (keys_in kp all c)) (pair_node p)) s.map.tree.lists
+        ∙ place_of kp.order (keys_in kp all c) p own_key ps keys_all l.absent,
     -- an insertion begins where the search for the key found
-    begins = subst (λ (o : Option ℕ). IfSome start (λ n. o ≡ Some n)) (entry_same (stands_before kp.order
+    subst (λ (o : Option ℕ). IfSome start (λ n. o ≡ Some n)) (entry_same (stands_before kp.order
         (keys_in kp ns c) false p.key) (λ m. not (comes_before kp.order (keys_in kp all c) (pair_node p) m))
         s.map.tree.tree (λ m i. let j = ap (is_in m) (sym s.map.tree.lists) ∙ i in
         ap (stands kp.order false p.key) (keys_agree (keys_in kp ns c) (keys_in kp all c) ps (keys kl c s) keys_all
         m j) ∙ not_beside kp.order kl.irreflexive kl.transitive (keys_in kp all c) p own_key ps keys_all
-        l.absent m j)) (known start (entry_in kp c p.key s.map.tree.tree) begins);
-  })
+        l.absent m j)) (known start (entry_in kp c p.key s.map.tree.tree) begins),
+  )
 
   -- the map with the pair
   pub planted : {d e : WindowState} {top : Option ℕ} {n steps : ℕ}
-      → Relinked kp lent c d root top (insert_in_order (comes_before kp.order (keys_in kp lent c)) node) steps → Laws vp
-      → n ≡ length ps + 1 → WritesMapHeader d e (h + at) top n → LinksPairOk kp vp c e h at ps p
+      → Relinked kp lent c d root top (insert_in_order (comes_before kp.order (keys_in kp lent c)) node) 28 steps
+      → Laws vp → n ≡ length ps + 1 → WritesMapHeader d e (h + at) top n → LinksPairOk kp vp c e h at ps p
   planted u vl count head = relaid s planted_tree u kl vl (p ∷ ps) (l.block, s.pairs) (l.bytes, s.map.pairs)
       (ns_is ∙ ap (λ (ms : List ℕ). pair_node p ∷ ms) s.map.tree.lists) (rw ns_is good_all) head
       ((λ i. insert_in_order (comes_before kp.order (keys_in kp (ns_is i) c)) (sym here i) (s.map.tree.lists i))
@@ -365,26 +341,15 @@ module _ {K V : Type 0} {kp : Plain K} {vp : Plain V} (c : WindowState) {h at : 
 
     cells : (m : ℕ) → is_in m (nodes_of s.map.tree.tree) ≡ true
         → cells_of (bytes_of d.bytes) m ≡ cells_of (bytes_of c.bytes) m
-    cells m i = by_place (cases_eq m (handle p.node))
-      where
-        by_place : (m ≡ handle p.node) ⊎ (m ≡ handle p.node → ⊥)
-            → cells_of (bytes_of d.bytes) m ≡ cells_of (bytes_of c.bytes) m
-        by_place (inl e) =
-            let g : PairNode (16 + kp.SIZE) (nodes_of s.map.tree.tree) c m =
-            record { good = good kl c s; listed = i } in
-            beside_cell _ _ _ _ m change.rest (node_place (16 + kp.SIZE) (nodes_of s.map.tree.tree) c m g).low
-            (inl (omega (arith, e)))
-        by_place (inr o) =
-            let n = at_node (IsPairIn kp vp (live_of c.bytes) h) ps m
-            (ap (λ ns. is_in m ns) (sym s.map.tree.lists) ∙ i) s.pairs in
-            let long = (pair_parts n.holds).long in
-            let apart : handle n.pair.node ≢ handle p.node = λ e. o (sym n.at ∙ e) in
-            subst (λ k. cells_of (bytes_of d.bytes) k ≡ cells_of (bytes_of c.bytes) k) n.at
-            (block_cells (bytes_of c.bytes) (bytes_of d.bytes) n.pair.node
-            (block_stays n.pair.node (handle n.pair.node) n.holds.listed apart) (omega arith))
-
-    abbrev keys_of : ℕ → Option K
-    keys_of = keys_in kp (nodes_of s.map.tree.tree) c
+    cells m i =
+        let g : PairNode (16 + kp.SIZE) (nodes_of s.map.tree.tree) c m = record { good = good kl c s; listed = i } in
+        let long = (pair_parts own).long in
+        let listed = found_in (live_of c.bytes).extents (handle p.node) p.node own.listed in
+        beside_cell _ _ _ _ m change.rest (node_place (16 + kp.SIZE) (nodes_of s.map.tree.tree) c m g).low
+        (elim (cases_eq (handle p.node) m) [
+          | inl e ↦ inl (omega (arith, e))
+          | inr o ↦ grind (arith, block_apart p.node g listed o, long)
+        ])
 
     -- the block, the bytes and the key of a pair
     record Was (q : Pair K V) : Type 0 where
@@ -400,7 +365,8 @@ module _ {K V : Type 0} {kp : Plain K} {vp : Plain V} (c : WindowState) {h at : 
         → handle q.node ≢ handle p.node
     other_node q w o e =
         let found = pair_of kp.order Was ps key p has were in
-        let is : q.key ≡ key = same_Some q.key p.key (sym w.key_is ∙ ap keys_of e ∙ found.0.key_is) ∙ sym same_key_is in
+        let is : q.key ≡ key = same_Some q.key p.key (sym w.key_is ∙ ap (keys_in kp (nodes_of s.map.tree.tree) c) e
+        ∙ found.0.key_is) ∙ sym same_key_is in
         elim o [
           | inl l ↦ both_ways _ (ap (kp.order key) is ∙ kl.irreflexive key) l
           | inr l ↦ both_ways _ (ap (λ k. kp.order k key) is ∙ kl.irreflexive key) l

@@ -22,51 +22,45 @@ text_name name some short text =
     last_of (nat_le 1 (length name)) (nat_le (length name) 255) (is_utf8 name)
     (list_all (λ c. not (is_control c)) (chars name)) (grind arith) (grind arith) (is_utf8-from_IsUtf8 name text)
 
-printable-ascii : (name : List ℕ) → list_all (λ c. nat_le 0x20 c && nat_le c 0x7E) name ≡ true → IsAscii name
+abbrev printable : ℕ → Bool
+printable c = nat_le 0x20 c && nat_le c 0x7E
+
+printable-ascii : (name : List ℕ) → list_all printable name ≡ true → IsAscii name
 printable-ascii [] h = IsAscii-nil
-printable-ascii (c ∷ cs) h =
-    let p = and_parts (nat_le 0x20 c && nat_le c 0x7E) (list_all (λ c. nat_le 0x20 c && nat_le c 0x7E) cs) h in
+printable-ascii (c ∷ cs) h = let p = and_parts (printable c) (list_all printable cs) h in
     IsAscii-cons c cs (grind (arith, nat_tests, p.0)) (printable-ascii cs p.1)
 
-no_control : (c : ℕ) → (nat_le 0x20 c && nat_le c 0x7E) ≡ true → not (is_control c) ≡ true
-no_control c h = grind (arith, nat_tests)
+-- a weaker test of each
+all_weaker : (p q : ℕ → Bool) → ((c : ℕ) → p c ≡ true → q c ≡ true) → (cs : List ℕ) → list_all p cs ≡ true
+    → list_all q cs ≡ true
+all_weaker p q f [] h = refl
+all_weaker p q f (c ∷ cs) h = let two = and_parts (p c) (list_all p cs) h in
+    and_from (q c) (list_all q cs) (f c two.0) (all_weaker p q f cs two.1)
 
-printable-uncontrolled : (name : List ℕ) → list_all (λ c. nat_le 0x20 c && nat_le c 0x7E) name ≡ true
-    → list_all (λ c. not (is_control c)) name ≡ true
-printable-uncontrolled [] h = refl
-printable-uncontrolled (c ∷ cs) h =
-    let p = and_parts (nat_le 0x20 c && nat_le c 0x7E) (list_all (λ c. nat_le 0x20 c && nat_le c 0x7E) cs) h in
-    and_from (not (is_control c)) (list_all (λ c. not (is_control c)) cs) (no_control c p.0)
-    (printable-uncontrolled cs p.1)
+no_control : (c : ℕ) → printable c ≡ true → not (is_control c) ≡ true
+no_control c h = grind (arith, nat_tests)
 
 -- bytes from 0x20 to 0x7E are characters, and none of them is a control character
 pub printable_name : (name : List ℕ) → 0 < length name → length name ≤ 255
-    → list_all (λ c. nat_le 0x20 c && nat_le c 0x7E) name ≡ true → true ≡ is_text_name name
+    → list_all printable name ≡ true → true ≡ is_text_name name
 printable_name name some short h =
     let ascii = printable-ascii name h in
-    sym (ap (list_all (λ c. not (is_control c))) (chars-IsAscii name ascii) ∙ printable-uncontrolled name h)
+    sym (ap (list_all (λ c. not (is_control c))) (chars-IsAscii name ascii) ∙ all_weaker printable
+    (λ c. not (is_control c)) no_control name h)
     ∙ text_name name some short (IsUtf8-from_ascii name ascii)
 
-byte-printable : (c : ℕ) → is_name_byte c ≡ true → (nat_le 0x20 c && nat_le c 0x7E) ≡ true
+byte-printable : (c : ℕ) → is_name_byte c ≡ true → printable c ≡ true
 byte-printable c h = grind (arith, nat_tests)
 
-first-printable : (c : ℕ) → (is_letter c || (c == 0x5F)) ≡ true → (nat_le 0x20 c && nat_le c 0x7E) ≡ true
+first-printable : (c : ℕ) → (is_letter c || (c == 0x5F)) ≡ true → printable c ≡ true
 first-printable c h = grind (arith, nat_tests)
-
-all-printable : (cs : List ℕ) → list_all is_name_byte cs ≡ true
-    → list_all (λ c. nat_le 0x20 c && nat_le c 0x7E) cs ≡ true
-all-printable [] h = refl
-all-printable (c ∷ cs) h = let p = and_parts (is_name_byte c) (list_all is_name_byte cs) h in
-    and_from (nat_le 0x20 c && nat_le c 0x7E) (list_all (λ c. nat_le 0x20 c && nat_le c 0x7E) cs) (byte-printable c p.0)
-    (all-printable cs p.1)
 
 pub bare_is_text : (name : List ℕ) → length name ≤ 255 → is_bare_name name ≡ true → is_text_name name ≡ true
 bare_is_text [] short h = cc
 bare_is_text (c ∷ cs) short h =
     let p = and_parts (is_letter c || (c == 0x5F)) (list_all is_name_byte cs) h in
-    sym (printable_name (c ∷ cs) (omega arith) short
-    (and_from (nat_le 0x20 c && nat_le c 0x7E) (list_all (λ c. nat_le 0x20 c && nat_le c 0x7E) cs)
-    (first-printable c p.0) (all-printable cs p.1)))
+    sym (printable_name (c ∷ cs) (omega arith) short (and_from (printable c) (list_all printable cs)
+    (first-printable c p.0) (all_weaker is_name_byte printable byte-printable cs p.1)))
 
 -- a longer name is no name
 pub long_is_no_text : (name : List ℕ) → 255 < length name → is_text_name name ≡ false

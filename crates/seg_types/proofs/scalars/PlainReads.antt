@@ -1,6 +1,7 @@
--- A value of a plain type that is read from bytes; for a scalar type by the whole number in the bytes.
+-- A value of a plain type that is read from bytes; for a scalar type by the whole number in the bytes, and that number.
 use Rattle.std.proofs.Common.{◌≡◌, sym, ap, subst, ◌∙◌, ℕ, suc, ◌<◌, refl, inl, inr, Bool, true, false, ◌&&◌, ◌==◌}
-use Rattle.std.proofs.Common.{if◌then◌else◌, List, [], ◌∷◌, length, get_or, Option, Some, None, MatchOption, ℤ}
+use Rattle.std.proofs.Common.{if◌then◌else◌, List, [], ◌∷◌, length, get_or, Option, Some, None, MatchOption, ℤ, zero}
+use Rattle.std.proofs.Common.{pos, negsuc, arith}
 use Rattle.std.proofs.lemmas.Bool.{and_parts, and_from, cases_Bool, cond-true, eq-eqb, eqb-true, false≢true}
 use Rattle.std.proofs.lemmas.Bool.{false_from_ne_true}
 use Rattle.std.specs.List.{AllByRecursion}
@@ -9,6 +10,8 @@ use Rattle.seg_types.specs.declared.kinds.ScalarKind.{ScalarKind}
 use Rattle.seg_types.specs.Kinds.{size_of, is_value, value_of, spelling, is_spelling, SpellsOne}
 use Rattle.seg_types.specs.Plain.{Decodes, same_bytes, value_in}
 use Rattle.seg_types.specs.ScalarLaws.{all_spell_one}
+use Rattle.seg_types.specs.declared.kinds.ScalarKind.TheVariants.{Bool as BoolKind, U8, I32, I64, U64}
+use Rattle.seg_types.specs.Values.{kind_of_scalar, scalar_of, value_of_scalar}
 
 -- ---- plain types
 
@@ -102,3 +105,23 @@ scalar-read k is_one spell whole values spelled reached bytes small len None non
     let found = reached z h in
     let same = (all_spell_one k z h).only bytes (all_bytes bytes small) len refl in
     none found.0 (values found.0 ∙ ap (is_value k) found.1 ∙ h) (spelled found.0 ∙ ap (spelling k) found.1 ∙ sym same))
+
+-- ---- values of a kind and their numbers
+
+-- the value of a kind that a number is has the kind
+pub scalar_of-kind : (k : ScalarKind) (z : ℤ) → kind_of_scalar (scalar_of k z) ≡ k
+scalar_of-kind BoolKind z = refl
+scalar_of-kind k z = refl
+
+-- and is the number, where that is in the range
+pub scalar_of-value : (k : ScalarKind) (z : ℤ) → is_value k z ≡ true → value_of_scalar (scalar_of k z) ≡ z
+scalar_of-value BoolKind (pos zero) h = refl
+scalar_of-value BoolKind (pos (suc zero)) h = refl
+scalar_of-value BoolKind (pos (suc (suc n))) h = absurd (grind arith)
+scalar_of-value BoolKind (negsuc n) h = absurd (cc)
+scalar_of-value U8 (pos n) h = refl
+scalar_of-value U8 (negsuc n) h = absurd (cc)
+scalar_of-value U64 (pos n) h = refl
+scalar_of-value U64 (negsuc n) h = absurd (cc)
+scalar_of-value I32 z h = refl
+scalar_of-value I64 z h = refl

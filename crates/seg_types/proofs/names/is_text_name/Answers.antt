@@ -1,5 +1,4 @@
-use Rattle.std.proofs.Common.{◌≡◌, ◌<◌, ◌≤◌, ℕ, Bool, true, false, ◌&&◌, List, length, nat_le, arith, ap, sym}
-use Rattle.std.proofs.Common.{◌∙◌, refl}
+use Rattle.std.proofs.Common.{◌≡◌, ℕ, Bool, true, false, ◌&&◌, List, length, nat_le, arith, ap, sym, ◌∙◌, refl}
 use Rattle.std.proofs.lemmas.{Bool.false_from_ne_true, Grind.common_steps}
 use Rattle.std.specs.Str.{IsUtf8, chars, is_utf8}
 use Rattle.std.specs.List.{list_all}
@@ -28,16 +27,13 @@ returns-then-is_empty c = grind (arith, common_steps)
 pub returns-in-Ok : goal.returns-in-Ok
 returns-in-Ok c =
     let cases = c.in-Ok.ensures.cases in
-    let short : length c.args.bytes.now ≤ 255 = omega arith in
-    let some : 0 < length c.args.bytes.now = grind arith in
     c.is_without_control.ensures ∙ ap (λ text. list_all (λ c. not (is_control c)) (chars text)) cases.0
-    ∙ text_name c.args.bytes.now some short cases.1
+    ∙ text_name c.args.bytes.now (grind arith) (omega arith) cases.1
 
 pub returns-in-Err : goal.returns-in-Err
 returns-in-Err c = no_text c.args.bytes.now c.in-Err.ensures.cases.0
 
 pub returns-then-are_printable : goal.returns-then-are_printable
 returns-then-are_printable c =
-    let short : length c.args.bytes.now ≤ 255 = omega arith in
-    let some : 0 < length c.args.bytes.now = grind arith in
-    printable_name c.args.bytes.now some short (sym c.are_printable.ensures ∙ c.if-are_printable.true)
+    printable_name c.args.bytes.now (grind arith) (omega arith) (sym c.are_printable.ensures
+    ∙ c.if-are_printable.true)

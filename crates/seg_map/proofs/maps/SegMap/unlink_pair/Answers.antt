@@ -1,7 +1,7 @@
 -- The node is unlinked from the tree, the three words are written, and its block is freed.
-use Rattle.seg_map.proofs.{refl, ap, ◌-◌, None, arith, laws, can_unlink, erased, few_steps, gone_live}
-use Rattle.seg_map.proofs.{kept_proper, kept_room, lent_tree, live_laid, own_nodes, relinked, removed_length, taken}
-use Rattle.seg_map.proofs.{rules, top_whole, Relinked, maps.SegMap.unlink_pair.Goals.After-add}
+use Rattle.seg_map.proofs.{subst, sym, ◌+◌, is_proper, has_room, live_left, refl, ap, ◌-◌, None, arith, laws}
+use Rattle.seg_map.proofs.{can_unlink, erased, few_steps, gone_live, IsTrue, lent_tree, live_laid, own_nodes, relinked}
+use Rattle.seg_map.proofs.{removed_length, taken, rules, top_whole, Relinked, maps.SegMap.unlink_pair.Goals.After-add}
 use Rattle.link_tree.specs.Nodes.{without}
 use Rattle.best_fit.specs.Heap.{heap_touches}
 use Rattle.seg_map.proofs.maps.SegMap.unlink_pair.Goals as goal
@@ -11,12 +11,12 @@ remove_at-changed-requires g c =
     let q = c.requires in let lent = c.lend-pairs.ensures in
     let r = can_unlink (laws g.met.K.Plain) c.args.heap.now q.map c.requires.leads q.key q.found q.is
     c.args.trace.now.start q.begins in
-    rw (lent.ownership, lent.heap) (record { root = r.tree.leads; tree = (r.shape, r.tree.tree, r.listed, r.begins) })
+    rw (lent.ownership, lent.heap) (record { root = r.0.leads; tree = (q.map.map.tree.tree, r.0.tree, r.1, r.2) })
 
 -- a change of the nodes is a change of the heap
 cut : (g : _) (c : After-add g) → Relinked g.K.Plain (own_nodes c.args.heap.now.bytes c.args.trace.now.root None)
     c.args.heap.now c.heap-1.given.0 c.args.trace.now.root c.remove_at-changed.result.root
-    (without c.args.node) (c.add.new.self - c.args.steps.now)
+    (without c.args.node) 30 (c.add.new.self - c.args.steps.now)
 cut g c =
     let f = c.remove_at-changed.ensures in let lent = c.lend-pairs in let r = c.remove_at-changed.result in
     rw (← lent.ensures.ownership, ← lent.ensures.heap)
@@ -28,8 +28,9 @@ write_map_header-requires g c =
     let r = c.requires.map in let u = cut g (goal.at.write_map_header-requires g c).After-add in
     record {
       aligned = r.aligned;
-      proper = kept_proper _ _ _ u.kept r.heap.proper;
-      room = kept_room _ _ _ _ _ u.kept r.room;
+      proper = subst (λ l. IsTrue (is_proper l)) (sym (live_left u)) r.heap.proper;
+      room = subst (λ l. IsTrue (has_room l c.args.self.place.handle (c.args.self.place.at + 24))) (sym (live_left u))
+          r.room;
       root = top_whole r (lent_tree (laws g.met.K.Plain) c.args.heap.now r c.requires.leads refl) u;
     }
 

@@ -1,7 +1,7 @@
 -- The number has the bytes that it was read from.
 use Rattle.std.proofs.Common.{ap, ◌∙◌, w64, arith}
 use Rattle.std.specs.Int.{from_le_bytes}
-use Rattle.seg_types.proofs.scalars.u64.U64Plain.read.Goals as goal
+use Rattle.seg_types.proofs.scalars.U64Plain.read.Goals as goal
 use Rattle.seg_types.proofs.scalars.EightBytes.{reads-u64}
 
 pub returns : goal.returns

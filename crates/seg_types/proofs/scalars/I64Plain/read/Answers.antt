@@ -1,7 +1,7 @@
 -- The number has the bytes that it was read from.
 use Rattle.std.proofs.Common.{ap, ◌∙◌, List, ℕ, w64, to_z, arith}
 use Rattle.std.specs.Int.{from_le_bytes}
-use Rattle.seg_types.proofs.scalars.i64.I64Plain.read.Goals as goal
+use Rattle.seg_types.proofs.scalars.I64Plain.read.Goals as goal
 use Rattle.seg_types.proofs.scalars.EightBytes.{reads-i64}
 
 pub returns : goal.returns

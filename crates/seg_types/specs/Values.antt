@@ -1,10 +1,13 @@
 -- The values of the code as values of the definitions.
-use Rattle.std.specs.Prelude.{◌≡◌, ℕ, ℤ, pos, nat_abs, nat_lt, true, false, List, Option, Some, None}
+use Rattle.std.specs.Prelude.{◌≡◌, ◌≢◌, ℕ, ℤ, Result, Ok, Err, pos, nat_abs, nat_lt, true, false, List, Option, Some}
+use Rattle.std.specs.Prelude.{None}
 use Rattle.byteorder.specs.Endian.{little_number}
 use Rattle.seg_types.specs.declared.kinds.ScalarKind.{ScalarKind}
 use Rattle.seg_types.specs.declared.kinds.ScalarKind.TheVariants as kind
 use Rattle.seg_types.specs.declared.values.ScalarValue.{ScalarValue}
 use Rattle.seg_types.specs.declared.values.ScalarValue.TheVariants.{Bool as Boolean, U8, I32, I64, U64}
+use Rattle.seg_types.specs.declared.refusals.Refusal.{Refusal}
+use Rattle.seg_types.specs.declared.refusals.Refusal.TheVariants.{WrongKind}
 use Rattle.seg_types.specs.Kinds.{is_spelling, size_of, truth_number, value_of}
 
 -- the kind of a value
@@ -36,3 +39,9 @@ abbrev pub SpelledBy : ScalarKind → List ℕ → Option ScalarValue → Type 0
 SpelledBy k bytes (Some v) = (is_spelling k bytes ≡ true) × (kind_of_scalar v ≡ k)
     × (value_of_scalar v ≡ value_of k (little_number (size_of k) bytes))
 SpelledBy k bytes None = is_spelling k bytes ≡ false
+
+-- the result is the value as a value of a type, with the same whole number, or `WrongKind` if the value has another
+-- kind
+abbrev pub ConvertsTo : {T : Type 0} → ScalarKind → (T → ℤ) → ScalarValue → Result T Refusal → Type 0
+ConvertsTo k whole v (Ok x) = (kind_of_scalar v ≡ k) × (value_of_scalar v ≡ whole x)
+ConvertsTo k whole v (Err why) = (kind_of_scalar v ≢ k) × (why ≡ WrongKind)

@@ -2,6 +2,7 @@
 #![tactic(auto)]
 
 mod by_kind;
+mod conversions;
 mod key_texts;
 mod keys;
 mod kinds;

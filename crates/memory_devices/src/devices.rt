@@ -7,7 +7,7 @@ use std::alloc::{AllocError, Global};
 use std::marker::Model;
 
 /// What a device does after its last byte.
-#[derive(Clone, Copy, Debug, PartialEq, Eq)]
+#[derive(Clone, Copy)]
 pub enum EndBehaviour {
     /// A reader ends; a writer takes 0.
     Ends,
@@ -62,7 +62,7 @@ impl Source for MemorySource<'_> {
         let count = into.len().min(self.rest.len()).min(self.piece);
         let asked = !into.is_empty();
         if asked {
-            if count == 0 && self.last == EndBehaviour::Fails {
+            if count == 0 && matches!(self.last, EndBehaviour::Fails) {
                 self.failures += 1;
                 self.ended = false;
                 return Err(DeviceFault);

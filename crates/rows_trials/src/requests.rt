@@ -1,6 +1,6 @@
 //! Requests that have no fit, and that all is as before if one has none.
 
-use crate::cases::{Case, Place};
+use crate::cases::{Case, Outcome, Place};
 use crate::findings::Findings;
 use crate::lines::Line;
 use crate::row_runners::{PIECES, RowRunner, Runner, count};
@@ -14,6 +14,9 @@ const LOOK: &[u8] = b"free\nblocks\nlist\nunique\nnum_named\nnum_unique\nsanity\
 
 /// More bytes than a look prints.
 const LOOK_CAPACITY: usize = 4112;
+
+/// What a request is refused by that has no fit.
+const NO_SPACE: &[u8] = b"error 9 no space\n";
 
 /// The lines before the command, and the command with the answer that it gives if each request has a fit.
 #[derive(Drop)]
@@ -125,20 +128,35 @@ impl<R: Runner> RowRunner<R> {
     fn ask_in_vain(&self, case: &Case<'_>, free: &[u8], command: &Script) {
         let stood = self.outcome(&case.unknown(LOOK, LOOK_CAPACITY));
         let what = "before the command another number of bytes is free";
-        self.findings
-            .holds(stood.answers.starts_with(free), case.line, what);
-        let refused = (command.text.as_slice(), b"error 9 no space\n".as_slice());
-        let behind = Script::of(&self.findings, case.line, refused, (LOOK, &stood.answers));
+        let is_free = stood.answers.starts_with(free);
+        self.findings.holds(is_free, case.line, what);
+        self.refuse_command(case, command, &stood);
+        drop(stood);
+    }
+
+    fn refuse_command(&self, case: &Case<'_>, command: &Script, stood: &Outcome) {
+        let mut behind = Script::new(self.findings.alloc);
+        behind.add_line(&self.findings, case.line, &command.text, NO_SPACE);
+        behind.add_line(&self.findings, case.line, LOOK, &stood.answers);
         let case = *case;
         self.check(&case.with_script(&behind).saving(&stood.saved));
+        drop(behind);
     }
 
     /// Makes requests that have a fit: what they leave is an image, which is read and saved as it is.
     fn ask(&self, case: &Case<'_>, free: &[u8], command: &Script) {
-        let granted = (command.text.as_slice(), command.answers.as_slice());
-        let behind = Script::of(&self.findings, case.line, granted, (b"free\n", free));
+        let mut behind = Script::new(self.findings.alloc);
+        let (text, answers) = (&command.text, &command.answers);
+        behind.add_line(&self.findings, case.line, text, answers);
+        behind.add_line(&self.findings, case.line, b"free\n", free);
+        self.check_saved_as_is(case, &behind);
+        drop(behind);
+    }
+
+    fn check_saved_as_is(&self, case: &Case<'_>, script: &Script) {
         let case = *case;
-        let done = self.outcome(&case.with_script(&behind));
+        let done = self.outcome(&case.with_script(script));
         self.check(&case.saved_as_is(&done.saved));
+        drop(done);
     }
 }

@@ -34,19 +34,6 @@ impl Script {
         }
     }
 
-    /// Makes a script of two lines, each with what it prints, that stand in one line of the file.
-    pub fn of(
-        findings: &Findings,
-        number: usize,
-        one: (&[u8], &[u8]),
-        other: (&[u8], &[u8]),
-    ) -> Script {
-        let mut script = Script::new(findings.alloc);
-        script.add_line(findings, number, one.0, one.1);
-        script.add_line(findings, number, other.0, other.1);
-        script
-    }
-
     /// Adds a command and the lines that it prints, so that they stand there so often.
     pub fn add(
         &mut self,

@@ -1,20 +1,13 @@
 //! A heap in a window of 1024 bytes, as its numbers come out: blocks, gaps, and the tree of the gaps in their payloads.
 ghost use Rattle.std.specs.Prelude.{◌%◌, ◌≡◌, ◌≤◌, IfSome, IsTrue};
-ghost use Rattle.best_fit.specs.Heap.{has_room, live_of};
+ghost use Rattle.best_fit.specs.Heap.{has_room, is_node_in, live_of};
 
 use crate::checks::{done, holds, same};
 use best_fit::{Heap, NoSpace};
 use block_tags::Role;
 use offset_link::load;
 use raw_region::{RawRegion, Steps, Window};
-use std::alloc::Global;
 use std::process::Abort;
-use std::test::Fail;
-
-/// Makes a heap with no block.
-fn empty(alloc: Global) -> Result<Heap, Fail> {
-    Ok(Heap::fresh(Window::new(RawRegion::new(alloc, 1024)?, 0, 1024)))
-}
 
 /// Asks for a block for a use, which is the one of a handle.
 fn takes_for(rt: &impl Abort, heap: &mut Heap, n: u64, role: Role, handle: u64) {
@@ -289,17 +282,33 @@ fn words_of_a_block_are_read_back(rt: HostRuntime) {
     drop(heap);
 }
 
-#[test]
-fn a_node_block_has_a_colour(rt: HostRuntime) -> Result<(), Fail> {
-    let mut heap = empty(rt.alloc())?;
-    let handle = heap.allocate(32, Role::Node, &mut Steps::new())?;
-    is_red(&rt, &heap, handle, false);
+/// Returns a new block for a node.
+fn takes_node(rt: &impl Abort, heap: &mut Heap) -> u64
+    ensures { IsTrue (is_node_in (live_of heap.new.bytes) result) }
+{
+    let Ok(handle) = heap.allocate(32, Role::Node, &mut Steps::new()) else {
+        panic!(rt; "no space");
+    };
+    handle
+}
+
+/// Makes a node block red, and black again.
+fn changes_colour(rt: &impl Abort, heap: &mut Heap, handle: u64)
+    requires { IsTrue (is_node_in (live_of heap.old.bytes) handle) }
+{
+    is_red(rt, heap, handle, false);
     heap.set_node_red(handle, true);
-    is_red(&rt, &heap, handle, true);
+    is_red(rt, heap, handle, true);
     heap.set_node_red(handle, false);
-    is_red(&rt, &heap, handle, false);
+    is_red(rt, heap, handle, false);
+}
+
+#[test]
+fn a_node_block_has_a_colour(rt: HostRuntime) {
+    let mut heap = played(&rt, &[]);
+    let handle = takes_node(&rt, &mut heap);
+    changes_colour(&rt, &mut heap, handle);
     drop(heap);
-    Ok(())
 }
 
 /// Makes each byte of a second block the last one of a first.

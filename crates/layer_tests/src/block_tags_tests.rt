@@ -1,5 +1,5 @@
 //! Each call once, over a window of 1024 bytes.
-ghost use Rattle.std.specs.Prelude.{IfOk, [], ◌∷◌};
+ghost use Rattle.std.specs.Prelude.{[], ◌∷◌};
 ghost use Rattle.block_tags.specs.Lists.{free_tile};
 ghost use Rattle.block_tags.specs.Windows.{EncodesTiles};
 
@@ -8,18 +8,19 @@ use block_tags::{
     BadTag, Role, Tile, append_free, check, drop_last, first, lay, merge_next, next, previous, red,
     set_red, set_use, split, tile_at,
 };
-use raw_region::{OutOfMemory, RawRegion, Window};
-use std::alloc::Global;
-use std::test::Fail;
+use raw_region::{RawRegion, Window};
+use std::process::Abort;
 
 /// Returns a window of 1024 bytes, of which one free tile fills all but the header and the end tag.
-fn laid_window(alloc: Global) -> Result<Window, OutOfMemory>
-    ensures { IfOk result (λ w. EncodesTiles w (free_tile 128 880 ∷ [])) }
+fn laid<R: Abort + AllocGlobal>(rt: &R) -> Window
+    ensures { EncodesTiles result (free_tile 128 880 ∷ []) }
 {
-    let region = RawRegion::new(alloc, 1024)?;
+    let Ok(region) = RawRegion::new(rt.alloc(), 1024) else {
+        panic!(rt; "out of memory");
+    };
     let mut window = Window::new(region, 0, 1024);
     lay(&mut window);
-    Ok(window)
+    window
 }
 
 fn free(offset: u64, len: u64) -> Tile {
@@ -32,8 +33,8 @@ fn free(offset: u64, len: u64) -> Tile {
 }
 
 #[test]
-fn splits_and_joins(rt: HostRuntime) -> Result<(), Fail> {
-    let mut window = laid_window(rt.alloc())?;
+fn splits_and_joins(rt: HostRuntime) {
+    let mut window = laid(&rt);
     same(&rt, first(&window), Some(free(128, 880)));
     split(&mut window, 128, 64);
     same(&rt, next(&window, 128), Some(free(192, 816)));
@@ -42,12 +43,11 @@ fn splits_and_joins(rt: HostRuntime) -> Result<(), Fail> {
     merge_next(&mut window, 128);
     same(&rt, first(&window), Some(free(128, 880)));
     drop(window);
-    Ok(())
 }
 
 #[test]
-fn gives_use_and_colour(rt: HostRuntime) -> Result<(), Fail> {
-    let mut window = laid_window(rt.alloc())?;
+fn gives_use_and_colour(rt: HostRuntime) {
+    let mut window = laid(&rt);
     set_use(&mut window, 128, Some(Role::Node));
     holds(&rt, !red(&window, 128));
     set_red(&mut window, 128, true);
@@ -61,16 +61,14 @@ fn gives_use_and_colour(rt: HostRuntime) -> Result<(), Fail> {
     same(&rt, tile_at(&window, 128), wanted);
     same(&rt, check(&window), Ok(()));
     drop(window);
-    Ok(())
 }
 
 #[test]
-fn moves_the_end(rt: HostRuntime) -> Result<(), Fail> {
-    let mut window = laid_window(rt.alloc())?;
+fn moves_the_end(rt: HostRuntime) {
+    let mut window = laid(&rt);
     let size = drop_last(&mut window);
     same(&rt, size, 144);
     append_free(&mut window, size);
     same(&rt, first(&window), Some(free(128, 880)));
     drop(window);
-    Ok(())
 }

@@ -20,21 +20,30 @@ fn puts(rt: &impl Abort, segment: &mut Segment, map: Handle, key: i32, value: bo
     same(rt, segment.map_put(&Key::Handle(map), key, value), Ok(true));
 }
 
-/// Makes one object of each kind.
-fn fill(rt: &impl Abort, segment: &mut Segment) {
-    let (only, none) = (UniqueInstance, AnonymousInstance);
-    done(rt, segment.construct(&new_named(rt, b"a"), 2, 7i64));
-    done(rt, segment.set(&named(rt, b"a"), 1, -2i64));
-    done(rt, segment.construct_string(&none, b"a\0\"b"));
-    done(
-        rt,
-        segment.construct_texts(&new_named(rt, b"b c"), &[b"hello", b""]),
-    );
-    done(rt, segment.construct_vec(&none, &[1u8, 2, 255]));
-    let map = segment.construct_map_of(&only, ScalarKind::I32, ScalarKind::Bool);
+/// Makes a map of two truths, the only one of its kind.
+fn make_map(rt: &impl Abort, segment: &mut Segment) {
+    let (from, to) = (ScalarKind::I32, ScalarKind::Bool);
+    let map = segment.construct_map_of(&UniqueInstance, from, to);
     let map = done(rt, map);
     puts(rt, segment, map, 7, true);
     puts(rt, segment, map, -7, false);
+}
+
+/// Makes two numbers under a name.
+fn make_numbers(rt: &impl Abort, segment: &mut Segment) {
+    done(rt, segment.construct(&new_named(rt, b"a"), 2, 7i64));
+    done(rt, segment.set(&named(rt, b"a"), 1, -2i64));
+}
+
+/// Makes one object of each kind.
+fn fill(rt: &impl Abort, segment: &mut Segment) {
+    make_numbers(rt, segment);
+    done(rt, segment.construct_string(&AnonymousInstance, b"a\0\"b"));
+    let name = new_named(rt, b"b c");
+    done(rt, segment.construct_texts(&name, &[b"hello", b""]));
+    let bytes = [1u8, 2, 255];
+    done(rt, segment.construct_vec(&AnonymousInstance, &bytes));
+    make_map(rt, segment);
 }
 
 #[test]
@@ -46,16 +55,16 @@ fn one_object_of_each_kind(rt: HostRuntime) {
     drop(segment);
 }
 
-/// Checks that a dump is loaded as a segment of 4096 bytes, which is dumped as this text.
-fn loads_alike<R: Abort + AllocGlobal>(rt: &R, dump: &[u8], text: &[u8]) {
-    let alike = loaded(rt, dump, Some(4096));
+/// Checks that a dump is loaded as a segment of a size, which is dumped as this text.
+fn loads_alike<R: Abort + AllocGlobal>(rt: &R, dump: &[u8], size: u64, text: &[u8]) {
+    let alike = loaded(rt, dump, Some(size));
     is_dumped(rt, &alike, text);
     drop(alike);
 }
 
 #[test]
 fn what_was_dumped_is_loaded(rt: HostRuntime) {
-    loads_alike(&rt, ONE_OF_EACH, ONE_OF_EACH);
+    loads_alike(&rt, ONE_OF_EACH, 4096, ONE_OF_EACH);
     let least = loaded(&rt, NOTHING, None);
     same(&rt, least.size(), 144);
     drop(least);
@@ -65,12 +74,11 @@ fn what_was_dumped_is_loaded(rt: HostRuntime) {
 fn is_loaded_again<R: Abort + AllocGlobal>(rt: &R, dump: &[u8]) {
     let least = loaded(rt, dump, None);
     same(rt, least.free(), 0);
+    let size = least.size();
     let text = text_of(rt, &least);
-    let again = loaded(rt, text.taken(), Some(least.size()));
-    is_dumped(rt, &again, text.taken());
     drop(least);
+    loads_alike(rt, text.taken(), size, text.taken());
     drop(text);
-    drop(again);
 }
 
 #[test]
@@ -78,18 +86,23 @@ fn what_was_loaded_is_loaded_again(rt: HostRuntime) {
     is_loaded_again(&rt, ONE_OF_EACH);
 }
 
+const LONG: [u8; 1001] = [0x61; 1001];
+
+/// Makes a long string, and a vector of one.
+fn make_long(rt: &impl Abort, segment: &mut Segment) {
+    let name = new_named(rt, b"s");
+    done(rt, segment.construct_string(&name, &LONG));
+    let name = new_named(rt, b"t");
+    done(rt, segment.construct_texts(&name, &[&LONG]));
+}
+
 #[test]
 fn a_long_text(rt: HostRuntime) {
     let mut segment = empty(&rt);
-    let bytes = [0x61; 1001];
-    done(&rt, segment.construct_string(&new_named(&rt, b"s"), &bytes));
-    done(
-        &rt,
-        segment.construct_texts(&new_named(&rt, b"t"), &[&bytes]),
-    );
+    make_long(&rt, &mut segment);
     let text = text_of(&rt, &segment);
-    is_loaded_again(&rt, text.taken());
     drop(segment);
+    is_loaded_again(&rt, text.taken());
     drop(text);
 }
 
@@ -136,7 +149,7 @@ fn notes_are_left_out(rt: HostRuntime) {
     for (text, left) in NOTES {
         same(&rt, without_notes(text), left);
     }
-    loads_alike(&rt, NOTED, DUMP);
+    loads_alike(&rt, NOTED, 4096, DUMP);
 }
 
 #[test]

@@ -1,5 +1,6 @@
 //! Segments made and opened in regions, as a region is seen from outside before and after.
 ghost use Rattle.std.specs.Prelude.{◌≡◌, ◌%◌};
+ghost use Rattle.raw_region.specs.Regions.{IsCapacity};
 
 use crate::checks::{done, holds, refusal, same};
 use crate::regions::{are_sevens, reads, region_of_sevens};
@@ -103,14 +104,27 @@ fn a_region_that_is_too_small_comes_back(rt: HostRuntime) {
     opens_none(&rt, 18446744073709551600);
 }
 
+/// Opens an image that lies in memory, from `base` on in a region of `capacity` sevens.
+fn opened_in<R: Abort + AllocGlobal>(
+    rt: &R,
+    image: &[u8],
+    capacity: u64,
+    base: u64,
+    versions: AcceptedVersions,
+    mode: Mode,
+) -> Result<Segment, OpenRefused>
+    requires capacity { IsCapacity capacity }
+    requires base { base % 16 ≡ 0 }
+{
+    let region = region_of_sevens(rt, capacity);
+    let steps = &mut Steps::new();
+    open_bytes(rt.alloc(), versions, image, region, base, mode, steps)
+}
+
 /// Checks that an image is opened where it lies in memory, for reading, at 16 of 2048 bytes.
 fn opens_bytes<R: Abort + AllocGlobal>(rt: &R, image: &[u8]) {
-    let region = region_of_sevens(rt, 2048);
-    let mut steps = Steps::new();
-    let versions = AcceptedVersions::Current;
-    let mode = Mode::ReadOnly;
-    let opened = open_bytes(rt.alloc(), versions, image, region, 16, mode, &mut steps);
-    let segment = done(rt, opened);
+    let (versions, mode) = (AcceptedVersions::Current, Mode::ReadOnly);
+    let segment = done(rt, opened_in(rt, image, 2048, 16, versions, mode));
     same(rt, segment.as_bytes(), image);
     same(rt, segment.mode(), Mode::ReadOnly);
     same(rt, segment.region_left(), 1008);
@@ -126,20 +140,8 @@ fn an_image_in_memory_is_opened(rt: HostRuntime) {
 
 /// Checks that the bytes have no place in a region of 1024 bytes from 864 on, and the region comes back as it was.
 fn opens_no_bytes<R: Abort + AllocGlobal>(rt: &R, image: &[u8], cause: OpenError) {
-    let region = region_of_sevens(rt, 1024);
-    let mut steps = Steps::new();
-    let refused = refusal(
-        rt,
-        open_bytes(
-            rt.alloc(),
-            AcceptedVersions::Current,
-            image,
-            region,
-            864,
-            Mode::Write,
-            &mut steps,
-        ),
-    );
+    let (versions, mode) = (AcceptedVersions::Current, Mode::Write);
+    let refused = refusal(rt, opened_in(rt, image, 1024, 864, versions, mode));
     same(rt, refused.cause, cause);
     is_as_it_was(rt, &refused.region);
     drop(refused);
@@ -187,37 +189,19 @@ fn a_right_image_comes_back_in_its_place(rt: HostRuntime) {
 fn a_wrong_image_is_told_and_writes_nothing_beside(rt: HostRuntime) {
     let mut image = [0; 1024];
     image[..18].copy_from_slice(b"MSEGFILE\x02\0\0\0\0\0\0\0\0\x04");
-    let refused = refusal(&rt, verified(&rt, &image));
+    has_wrong_tag(&rt, refusal(&rt, verified(&rt, &image)));
+    let (versions, mode) = (AcceptedVersions::All, Mode::ReadOnly);
+    let opened = opened_in(&rt, &image, 2048, 16, versions, mode);
+    has_wrong_tag(&rt, refusal(&rt, opened));
+}
+
+/// Checks that an image is refused for a wrong tag at 128, and that nothing is written beside its place.
+fn has_wrong_tag(rt: &impl Abort, refused: OpenRefused) {
     let class = ImageClass::BadTag;
     let cause = OpenError::Image(Verdict { class, place: 128 });
-    same(&rt, refused.cause, cause);
-    has_sevens_beside(&rt, &refused.region);
+    same(rt, refused.cause, cause);
+    has_sevens_beside(rt, &refused.region);
     drop(refused);
-}
-
-/// Opens an image that lies in memory for reading, at 16 in a region of 2048 sevens.
-fn opened_there<R: Abort + AllocGlobal>(rt: &R, image: &[u8]) -> Result<Segment, OpenRefused> {
-    let region = region_of_sevens(rt, 2048);
-    let steps = &mut Steps::new();
-    let versions = AcceptedVersions::All;
-    open_bytes(
-        rt.alloc(),
-        versions,
-        image,
-        region,
-        16,
-        Mode::ReadOnly,
-        steps,
-    )
-}
-
-#[test]
-fn the_place_of_a_wrong_tag_is_told(rt: HostRuntime) {
-    let mut image = [0; 1024];
-    image[..18].copy_from_slice(b"MSEGFILE\x02\0\0\0\0\0\0\0\0\x04");
-    let class = ImageClass::BadTag;
-    let cause = OpenError::Image(Verdict { class, place: 128 });
-    same(&rt, refusal(&rt, opened_there(&rt, &image)).cause, cause);
 }
 
 #[test]

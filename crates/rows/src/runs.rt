@@ -100,13 +100,13 @@ impl Tally {
         last: EndBehaviour,
         answers: &[u8],
     ) -> Result<(), AllocError> {
-        let mut machine = Lengths { count: 0 };
-        let mut reader = MemorySource::new(script, piece, last);
         let mut out = MemorySink::new(alloc, 64, 5, EndBehaviour::Fails)?;
         let wanted = match last {
             EndBehaviour::Ends => Ok(()),
             EndBehaviour::Fails => Err(RunFault::ReadFault),
         };
+        let mut machine = Lengths { count: 0 };
+        let mut reader = MemorySource::new(script, piece, last);
         let result = run(&mut machine, &mut reader, &mut out);
         self.count(result == wanted && out.taken() == answers);
         Ok(())
@@ -120,9 +120,9 @@ impl Tally {
         last: EndBehaviour,
         lines: u8,
     ) -> Result<(), AllocError> {
+        let mut out = MemorySink::new(alloc, capacity, 2, last)?;
         let mut machine = Lengths { count: 0 };
         let mut reader = MemorySource::new(SCRIPT, 4096, EndBehaviour::Ends);
-        let mut out = MemorySink::new(alloc, capacity, 2, last)?;
         let result = run(&mut machine, &mut reader, &mut out);
         let is_told = result == Err(RunFault::WriteFault) && machine.count == lines;
         self.count(is_told && ANSWERS.get(..capacity) == Some(out.taken()));

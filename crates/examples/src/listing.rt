@@ -15,12 +15,10 @@ fn fill(segment: &mut Segment, name: &Name) -> Result<u64, Refusal> {
 
 /// Prints the first object of each index.
 fn tell_the_first(rt: &HostRuntime, segment: &Segment) -> Result<()> {
-    let first = segment.named_instances().next();
-    if let Some(first) = first {
+    if let Some(first) = segment.named_instances().next() {
         println!(rt; "a list: the first name has the handle #{}", first.handle)?;
     }
-    let only = segment.unique_instances().next();
-    if let Some(only) = only {
+    if let Some(only) = segment.unique_instances().next() {
         println!(rt; "a list: the first unique object is of kind {}", only.kind)?;
     }
     Ok(())
@@ -46,14 +44,24 @@ fn tell_of_all(rt: &HostRuntime, segment: &Segment) -> Result<()> {
     Ok(())
 }
 
+/// Prints what a segment has.
+fn tell(rt: &HostRuntime, segment: &Segment) -> Result<()> {
+    tell_the_first(rt, segment)?;
+    tell_the_names(rt, segment)?;
+    tell_of_all(rt, segment)
+}
+
+/// Fills a segment, and prints its contents.
+fn list(rt: &HostRuntime, segment: &mut Segment) -> Result<()> {
+    let handle = fill(segment, &named("width")?)?;
+    tell(rt, segment)?;
+    let len = segment.instance_length(&Key::Handle(handle))?;
+    println!(rt; "a list: #{handle} has {len} elements")?;
+    Ok(())
+}
+
 /// Creates and fills a segment in a file, and prints its contents.
 pub fn list_a_segment(rt: &HostRuntime, disk: &mut impl Disk) -> Result<()> {
     let mut file = SegmentFile::create(rt.alloc(), disk, "listed.seg", 1024)?;
-    let handle = fill(&mut file.segment, &named("width")?)?;
-    tell_the_first(rt, &file.segment)?;
-    tell_the_names(rt, &file.segment)?;
-    tell_of_all(rt, &file.segment)?;
-    let len = file.segment.instance_length(&Key::Handle(handle))?;
-    println!(rt; "a list: #{handle} has {len} elements")?;
-    Ok(())
+    list(rt, &mut file.segment)
 }

@@ -1,4 +1,3 @@
 //! Blocks and gaps: their report, walks over them, the blocks of a new object, and the end of a segment.
-pub(crate) mod requesting;
 pub(crate) mod sizing;
 pub(crate) mod tiles;

@@ -1,14 +1,14 @@
 -- The directory of the bytes after the end of the heap moves and the size is written.
 use Rattle.best_fit.proofs.Laws.{changed-header_blocks, ends-then}
 use Rattle.best_fit.specs.Ends.{EndsAt, MovesEnd, least_size, of_size}
-use Rattle.segment_manager.proofs.Common.{Directory, EncodesLiveSet, IsHeader, IsSegment, List, LiveSet, Resizes}
-use Rattle.segment_manager.proofs.Common.{SameBlock, SameBytes, SameBytes-part, SameBytes-word, SegmentState}
-use Rattle.segment_manager.proofs.Common.{WindowState, ap, arith, blocks-trans, by_kind, by_name, bytes_of, current}
-use Rattle.segment_manager.proofs.Common.{grown, inl, inr, lay_out_one, length, live, live_of, named_objects, refl}
-use Rattle.segment_manager.proofs.Common.{shrunk, subst, sym, unique_objects, word_at, ℕ}
-use Rattle.segment_manager.proofs.Common.{◌+◌, ◌∙◌, ◌≡◌, ◌≤◌, AllByRecursion, ChangesBytes, Denotes, DenotesCurrent}
-use Rattle.segment_manager.proofs.directory.{Frame.any_objects-same, OneObject.index-stays}
-use Rattle.segment_manager.proofs.directory.{HeapCalls.denotes-live, LiveSet.live-size, LiveSet.of_each}
+use Rattle.segment_manager.proofs.Common.{AllByRecursion, ChangesBytes, Denotes, DenotesCurrent, Directory}
+use Rattle.segment_manager.proofs.Common.{EncodesLiveSet, IsHeader, IsSegment, List, LiveSet, Resizes, SameBlock}
+use Rattle.segment_manager.proofs.Common.{SameBytes, SameBytes-part, SameBytes-word, SegmentState, WindowState, ap}
+use Rattle.segment_manager.proofs.Common.{arith, blocks-trans, by_kind, by_name, bytes_of, current, grown, inl, inr}
+use Rattle.segment_manager.proofs.Common.{lay_out_one, length, live, live_of, named_objects, refl, shrunk, subst, sym}
+use Rattle.segment_manager.proofs.Common.{unique_objects, word_at, ℕ, ◌+◌, ◌∙◌, ◌≡◌, ◌≤◌}
+use Rattle.segment_manager.proofs.directory.{AnyDirectory.denotes-live, Frame.any_objects-same, Frame.index-stays}
+use Rattle.segment_manager.proofs.directory.LiveSet.{live-size, of_each}
 
 -- the live set of a directory of another size
 live-of_size : (d : Directory) (n : ℕ) → of_size (live d) n ≡ live (record d { size = n })

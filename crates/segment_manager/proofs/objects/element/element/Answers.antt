@@ -1,7 +1,7 @@
 -- The element lies in the payload.
-use Rattle.segment_manager.proofs.Common.{◌≡◌, ◌+◌, ◌-◌, ◌≤◌, ◌∙◌, ap, arith, length, ℕ, part, live_of}
-use Rattle.segment_manager.proofs.objects.Pieces.{lent, room-live, room-small}
 use Rattle.segment_manager.proofs.objects.element.element.Goals as goal
+use Rattle.segment_manager.proofs.Common.{ap, arith, length, live_of, part, ℕ, ◌+◌, ◌-◌, ◌∙◌, ◌≡◌, ◌≤◌}
+use Rattle.segment_manager.proofs.objects.Exchanged.{lent, room-live, room-small}
 
 pub block-payload-requires : goal.block-payload-requires
 block-payload-requires c =

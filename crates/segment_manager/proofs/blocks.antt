@@ -3,4 +3,3 @@ pub mod OwnBlocks
 pub mod Blocks
 pub mod NewBlocks
 pub mod InUse
-pub mod Resizes

@@ -4,27 +4,31 @@ use Rattle.segment_manager.proofs.Common as common
 use Rattle.std.proofs.{Common.add-one, lemmas.List.Elements.filter-append, lemmas.List.Folds.list_any-append}
 use Rattle.raw_region.proofs.Facts.{AllByRecursion-append, AllByRecursion-filter, first, none_more, second}
 use Rattle.block_tags.specs.{Tiles.role_bits, Tiles.tile_at, Tiles.tiles_from, declared.tile.Role.TheVariants.Index}
-use Rattle.best_fit.proofs.Laws.{proper_from-IsFirst, proper_from-reaches}
+use Rattle.best_fit.proofs.Laws.{changed-header_blocks, ends-then, proper_from-IsFirst, proper_from-reaches}
 use Rattle.best_fit.specs.{Extents.Span, Extents.Span as LiveSpan, Extents.span_between, Extents.spans_from, Fit.insert}
-use Rattle.segment_manager.proofs.{blocks.Blocks.own-block, directory.AnyDirectory.denotes-live}
-use Rattle.segment_manager.proofs.directory.LiveSet.{all-sorted, inserted, live-extents, spread, spread-cons, tables_of}
+use Rattle.best_fit.specs.Ends.{EndsAt, MovesEnd, least_size, of_size}
+use Rattle.segment_manager.proofs.{blocks.Blocks.own-block, directory.LiveSet.spread-cons, directory.LiveSet.tables_of}
+use Rattle.segment_manager.proofs.directory.{AnyDirectory.denotes-live, Frame.any_objects-same, Frame.index-stays}
+use Rattle.segment_manager.proofs.directory.LiveSet.{all-sorted, inserted, live-extents, live-size, of_each, spread}
 use Rattle.segment_manager.proofs.indexes.{Bridge.all-at, Bridge.each-by_handle, Indexes.rises-above}
 use Rattle.segment_manager.proofs.objects.RankedPairs.{rises-front, rises-rest}
 use Rattle.segment_manager.specs.{Calls.as_span, declared.blocks.tiles.TileInfo.TileInfo}
 use Rattle.segment_manager.specs.indexes.Iterating.{GoesOnOwn, GoesOnTiles, HasPassed, IsObjectTile, TileWalk, is_own}
 use Rattle.segment_manager.specs.indexes.Iterating.{is_own_span, own_before, own_count, own_spans}
-use common.{AllByRecursion, AnswersWith, BackingArray, Bool, ByHandle, Bytes, DenotesCurrent, Directory, Elements}
-use common.{Extent, Instance, IsDirectory, IsInstance, IsSegment, IsTrue, List, LiveSet, Memory, Node, None, NumberPair}
-use common.{Numbers, Object, ObjectRole, Option, OwnedText, Pairs, SaysAt, SaysOf, ScalarKind, SegmentState, Some}
-use common.{Storage, Texts, Tile, Value, [], and_right, ap, arith, by_kind, by_name, bytes_of, cond, current, end_of}
-use common.{eq-eqb, eqb-false, eqb-true, extents_of, false, filter, find, flat_map, handle, has_backing, has_good_name}
-use common.{has_key, has_own_block, holds, if◌then◌else◌, int_lt, is_good_value, is_index, is_kind_of, is_legal_size}
-use common.{is_number_pair, is_object, is_object_at, is_owned_text, is_proper, is_rising, is_some, is_value, kind_of}
-use common.{legal_size, length, length-map, list_all, list_any, live, ltb-false, map, named_objects, nat_le, nat_lt}
-use common.{ne_eqb, node_len, none-some, object_at, object_len, option_map, option_to_list, proper_from, refl, rises}
-use common.{rises_from, same_Some, same_role, serves, size_of, slice_get, slice_get_within, sorted, spans, subst, suc}
-use common.{sym, table_extents, take, tiles_of, true, unique_objects, value_extents, zero, ℕ, ◌&&◌, ◌*◌, ◌++◌, ◌+◌, ◌-◌}
-use common.{◌/◌, ◌<◌, ◌==◌, ◌||◌, ◌∙◌, ◌∷◌, ◌≡◌, ◌≤◌}
+use common.{AllByRecursion, AnswersWith, BackingArray, Bool, ByHandle, Bytes, ChangesBytes, Denotes, DenotesCurrent}
+use common.{Directory, Elements, EncodesLiveSet, Extent, Instance, IsDirectory, IsHeader, IsInstance, IsSegment, IsTrue}
+use common.{List, LiveSet, Memory, Node, None, NumberPair, Numbers, Object, ObjectRole, Option, OwnedText, Pairs}
+use common.{Resizes, SameBlock, SameBytes, SameBytes-part, SameBytes-word, SaysAt, SaysOf, ScalarKind, SegmentState}
+use common.{Some, Storage, Texts, Tile, Value, WindowState, [], and_right, ap, arith, blocks-trans, by_kind, by_name}
+use common.{bytes_of, cond, current, end_of, eq-eqb, eqb-false, eqb-true, extents_of, false, filter, find, flat_map}
+use common.{grown, handle, has_backing, has_good_name, has_key, has_own_block, holds, if◌then◌else◌, inl, inr, int_lt}
+use common.{is_good_value, is_index, is_kind_of, is_legal_size, is_number_pair, is_object, is_object_at, is_owned_text}
+use common.{is_proper, is_rising, is_some, is_value, kind_of, lay_out_one, legal_size, length, length-map, list_all}
+use common.{list_any, live, live_of, ltb-false, map, named_objects, nat_le, nat_lt, ne_eqb, node_len, none-some}
+use common.{object_at, object_len, option_map, option_to_list, proper_from, refl, rises, rises_from, same_Some}
+use common.{same_role, serves, shrunk, size_of, slice_get, slice_get_within, sorted, spans, subst, suc, sym}
+use common.{table_extents, take, tiles_of, true, unique_objects, value_extents, word_at, zero, ℕ, ◌&&◌, ◌*◌, ◌++◌, ◌+◌}
+use common.{◌-◌, ◌/◌, ◌<◌, ◌==◌, ◌||◌, ◌∙◌, ◌∷◌, ◌≡◌, ◌≤◌}
 
 -- ---- some extent of a live set passes a test
 
@@ -653,3 +657,118 @@ module _ {s : SegmentState} {old new : TileWalk} {at : ℕ} {r : Option TileInfo
   -- no object is left of the walk
   pub none-left : r ≡ None → (d : Directory) → DenotesCurrent s.cut.bytes d → length d.objects ≤ at
   none-left e d k = objects-end s at k (ap (option_map as_span) (sym e) ∙ at-own k)
+
+-- The directory of the bytes after the end of the heap moves and the size is written.
+
+-- the live set of a directory of another size
+live-of_size : (d : Directory) (n : ℕ) → of_size (live d) n ≡ live (record d { size = n })
+unfolding live
+live-of_size d n = refl
+
+module _ (old mid new : WindowState) (n : ℕ) (moved : MovesEnd current old mid n)
+    (change : ChangesBytes current mid new 16 8) (word : word_at (bytes_of new.bytes) 16 ≡ n) where
+  mid_live : live_of mid.bytes ≡ of_size (live_of old.bytes) n
+  mid_live = lay_out_one current mid.bytes (of_size (live_of old.bytes) n) moved.live
+
+  pub alike : AllByRecursion (SameBlock (bytes_of old.bytes) (bytes_of new.bytes)) (live_of old.bytes).extents
+  alike = blocks-trans (bytes_of old.bytes) (bytes_of mid.bytes) (bytes_of new.bytes) (live_of old.bytes).extents
+      moved.keeps.blocks (subst (λ (l : LiveSet). AllByRecursion (SameBlock (bytes_of mid.bytes) (bytes_of new.bytes))
+      l.extents) mid_live (changed-header_blocks current mid new 16 8 change (omega arith)))
+
+  front : SameBytes (bytes_of old.bytes) (bytes_of new.bytes) 0 16
+  front = record { at = λ k low high. change.rest.at k (inl (omega arith)) ∙ moved.keeps.front.at k low (omega arith) }
+
+  behind : SameBytes (bytes_of old.bytes) (bytes_of new.bytes) 32 128
+  behind = record { at = λ k low high. change.rest.at k (inr (omega arith)) ∙ moved.keeps.behind.at k low high }
+
+  laid : {d : Directory} → Denotes current old.bytes d → EncodesLiveSet current new.bytes (live (record d { size = n }))
+  laid {d} h = subst (EncodesLiveSet current new.bytes)
+      (mid_live ∙ ap (λ (l : LiveSet). of_size l n) (denotes-live current old.bytes d h) ∙ live-of_size d n) change.live
+
+  header : (d : Directory) → Denotes current old.bytes d → IsHeader current (bytes_of new.bytes) n
+  header d h = record {
+    magic =
+        SameBytes-word (bytes_of old.bytes) (bytes_of new.bytes) 0 16 0 front (omega arith) (omega arith)
+        ∙ h.header.magic;
+    version =
+        SameBytes-word (bytes_of old.bytes) (bytes_of new.bytes) 0 16 8 front (omega arith) (omega arith)
+        ∙ h.header.version;
+    size_word = word;
+    zeros = record { at = λ k a b. behind.at k (omega arith) (omega arith) ∙ h.header.zeros.at k a b };
+  }
+
+  pub denotes-resized : {d : Directory} → Denotes current old.bytes d
+      → Denotes current new.bytes (record d { size = n })
+  denotes-resized {d} h =
+      let each = of_each (SameBlock (bytes_of old.bytes) (bytes_of new.bytes))
+      (subst (λ (l : LiveSet). AllByRecursion (SameBlock (bytes_of old.bytes) (bytes_of new.bytes)) l.extents)
+      (denotes-live current old.bytes d h) alike) in
+      record {
+        directory = record {
+          proper = (laid h).proper;
+          objects = h.directory.objects;
+          by_offset = h.directory.by_offset;
+          named = h.directory.named;
+          unique = h.directory.unique;
+        };
+        header = header d h;
+        heap = laid h;
+        named = index-stays (named_objects d) by_name h.directory.named (SameBytes-part (bytes_of old.bytes)
+            (bytes_of new.bytes) 32 128 32 56 behind (omega arith) (omega arith)) each.named h.named;
+        unique = index-stays (unique_objects d) by_kind h.directory.unique (SameBytes-part (bytes_of old.bytes)
+            (bytes_of new.bytes) 32 128 56 80 behind (omega arith) (omega arith)) each.unique h.unique;
+        objects = any_objects-same current (bytes_of old.bytes)
+            (bytes_of new.bytes) d.objects h.directory.objects each.objects h.objects;
+      }
+
+  size_mid : length new.bytes ≡ length mid.bytes
+  size_mid = change.live.size ∙ ap (λ (l : LiveSet). l.size) mid_live ∙ sym moved.live.size
+
+  pub place-resized : EndsAt old new (length new.bytes)
+  place-resized =
+      let e : n ≡ length new.bytes = sym (size_mid ∙ moved.live.size) in
+      subst (λ k. EndsAt old new k) e (ends-then old mid new n moved.keeps.place change.place size_mid)
+
+-- ---- each directory becomes the next
+
+-- a directory's size is that of its bytes
+pub stands-size : {b : List ℕ} {d : Directory} → DenotesCurrent b d → d.size ≡ length b
+stands-size {d} h = sym (h.denotes.heap.size ∙ live-size d)
+
+pub resizes : {old new : SegmentState} {mid : WindowState} {n : ℕ} {next : Directory → Directory} → new.mode ≡ old.mode
+    → MovesEnd current old.cut mid n → ChangesBytes current mid new.cut 16 8 → word_at (bytes_of new.cut.bytes) 16 ≡ n
+    → ((d : Directory) → DenotesCurrent old.cut.bytes d → record d { size = n } ≡ next d) → Resizes old new next
+resizes {old} {new} {mid} {n} mode moved change word is = record {
+  mode = mode;
+  place = place-resized old.cut mid new.cut n moved change word;
+  blocks = alike old.cut mid new.cut n moved change word;
+  denotes = λ d h. subst (DenotesCurrent new.cut.bytes) (is d h)
+      (record { denotes = denotes-resized old.cut mid new.cut n moved change word h.denotes });
+}
+
+-- with this many bytes more
+pub grows : {old new : SegmentState} {mid : WindowState} (extra : ℕ) → new.mode ≡ old.mode
+    → MovesEnd current old.cut mid (length old.cut.bytes + extra) → ChangesBytes current mid new.cut 16 8
+    → word_at (bytes_of new.cut.bytes) 16 ≡ length mid.bytes → Resizes old new (λ d. grown d extra)
+grows extra mode moved change word = resizes mode moved change (word ∙ moved.live.size)
+    (λ d h. ap (λ n. let e : Directory = record d { size = n + extra } in e) (sym (stands-size h)))
+
+-- as far as the last extent
+pub shrinks : {old new : SegmentState} {mid : WindowState} → new.mode ≡ old.mode
+    → MovesEnd current old.cut mid (least_size (live_of old.cut.bytes)) → ChangesBytes current mid new.cut 16 8
+    → word_at (bytes_of new.cut.bytes) 16 ≡ length mid.bytes → Resizes old new (λ d. shrunk d)
+shrinks {old} mode moved change word = resizes mode moved change (word ∙ moved.live.size)
+    (λ d h. ap (λ (l : LiveSet). let e : Directory = record d { size = least_size l } in
+    e) (denotes-live current old.cut.bytes d h.denotes))
+
+-- and the new bytes are still a segment
+pub resized-segment : {old new : SegmentState} {next : Directory → Directory}
+    → Resizes old new next → IsSegment old.cut.bytes → IsSegment new.cut.bytes
+resized-segment {next} r s = (next s.0, r.denotes s.0 s.1)
+
+-- ---- the conditions of the heap's call
+
+-- the size is that of each directory
+pub fits-small : {b : List ℕ} (extra : ℕ) → IsSegment b
+    → ((d : Directory) → DenotesCurrent b d → d.size + extra ≤ 1073741824) → length b + extra ≤ 1073741824
+fits-small extra s h = let l = h s.0 s.1 in let e = stands-size s.1 in omega arith

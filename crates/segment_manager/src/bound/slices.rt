@@ -17,8 +17,7 @@ ghost use Rattle.segment_manager.specs.objects.{BoundObjects.IsBound, BoundObjec
 ghost use Rattle.segment_manager.specs.objects.ElementLists.{element_of, numbers_at, whole_of};
 
 use crate::bound::{Bound, BoundContent, BoundMut, object_of_kind, of_kind};
-use crate::containers::fillings::LONGEST;
-use crate::objects::element::element;
+use crate::containers::fillings::{LONGEST, element};
 use crate::objects::object_ref::{Object, ObjectRef, locate};
 use crate::segment::{Result, Segment};
 use seg_types::theorems::{holds_value, scalar_is_number};

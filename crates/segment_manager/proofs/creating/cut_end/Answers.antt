@@ -1,8 +1,8 @@
 -- The heap is cut at its end, and the size is written.
-use Rattle.segment_manager.proofs.Common.{refl, subst, ◌∙◌, Resizes, shrunk, SegmentState}
-use Rattle.segment_manager.proofs.blocks.Resizes.{resized-segment, shrinks}
-use Rattle.segment_manager.proofs.blocks.sizing.cut_end.Goals as goal
-use Rattle.segment_manager.proofs.blocks.sizing.cut_end.Goals.{After-set_header_word}
+use Rattle.segment_manager.proofs.creating.cut_end.Goals as goal
+use Rattle.segment_manager.proofs.Common.{Resizes, SegmentState, refl, shrunk, subst, ◌∙◌}
+use Rattle.segment_manager.proofs.blocks.OwnBlocks.{resized-segment, shrinks}
+use Rattle.segment_manager.proofs.creating.cut_end.Goals.{After-set_header_word}
 
 -- the segment before and after
 abbrev before : After-set_header_word → SegmentState

@@ -1,8 +1,9 @@
 -- The heap's end moves, and the size is written.
-use Rattle.segment_manager.proofs.blocks.sizing.extend_end.Goals as goal
-use Rattle.segment_manager.proofs.Common.{refl, sym, subst, ◌∙◌, ◌+◌, ◌≤◌, Directory, Resizes, grown, DenotesCurrent}
-use Rattle.segment_manager.proofs.{Common.SegmentState, blocks.Resizes.fits-small, blocks.Resizes.grows}
-use Rattle.segment_manager.proofs.{blocks.Resizes.resized-segment, blocks.sizing.extend_end.Goals.After-set_header_word}
+use Rattle.segment_manager.proofs.creating.extend_end.Goals as goal
+use Rattle.segment_manager.proofs.Common.{DenotesCurrent, Directory, Resizes, SegmentState, grown, refl, subst, sym}
+use Rattle.segment_manager.proofs.Common.{◌+◌, ◌∙◌, ◌≤◌}
+use Rattle.segment_manager.proofs.blocks.OwnBlocks.{fits-small, grows, resized-segment}
+use Rattle.segment_manager.proofs.creating.extend_end.Goals.{After-set_header_word}
 
 pub extend_end-requires-clause-max_size : goal.extend_end-requires-clause-max_size
 extend_end-requires-clause-max_size c =

@@ -1,5 +1,5 @@
 -- The element lies in the payload.
-use Rattle.segment_manager.proofs.objects.element.element.Goals as goal
+use Rattle.segment_manager.proofs.containers.fillings.element.Goals as goal
 use Rattle.segment_manager.proofs.Common.{ap, arith, length, live_of, part, ℕ, ◌+◌, ◌-◌, ◌∙◌, ◌≡◌, ◌≤◌}
 use Rattle.segment_manager.proofs.objects.Exchanged.{lent, room-live, room-small}
 

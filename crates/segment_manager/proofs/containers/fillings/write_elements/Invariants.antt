@@ -1,6 +1,6 @@
 -- This many copies are written, and nothing else has changed.
 use Rattle.segment_manager.proofs.Common.{◌+◌, ◌*◌, length, current, HasBytesAt, bytes_of, ChangesBytes, repeated}
-use Rattle.segment_manager.proofs.objects.element.write_elements.Given as goal
+use Rattle.segment_manager.proofs.containers.fillings.write_elements.Given as goal
 
 abbrev pub invariant-loop-i : goal.invariant-loop-i
 invariant-loop-i l = record {

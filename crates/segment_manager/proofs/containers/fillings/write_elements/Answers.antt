@@ -1,5 +1,5 @@
 -- Each turn writes one more copy of the bytes.
-use Rattle.segment_manager.proofs.objects.element.write_elements.Goals as goal
+use Rattle.segment_manager.proofs.containers.fillings.write_elements.Goals as goal
 use Rattle.segment_manager.proofs.Common.{arith, length, ◌+◌, ◌<◌}
 use Rattle.segment_manager.proofs.objects.Exchanged.{Repeats, next-small, repeats-more, room-once_more}
 

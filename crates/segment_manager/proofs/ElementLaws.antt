@@ -2,10 +2,10 @@
 -- object, and when one call is the step of a command.
 
 -- the object of a key, by its kind: the step of the kind is the command's, and without an object the command fails
-pub use Rattle.segment_manager.proofs.containers.AnyStorage.{IsOfKindAt, of_kind-steps}
-pub use Rattle.segment_manager.proofs.directory.CommandSteps.{step_of_kind-step, with-found, with-not_found}
+pub use Rattle.segment_manager.proofs.containers.ItemSteps.{IsOfKindAt, of_kind-steps}
+pub use Rattle.segment_manager.proofs.directory.AnyDirectory.{step_of_kind-step, with-found, with-not_found}
 -- two commands with one plan, and a plan that ends with an error
-pub use Rattle.segment_manager.proofs.containers.Refilled.{same_plan-steps}
+pub use Rattle.segment_manager.proofs.containers.ItemSteps.{same_plan-steps}
 -- the literal of a value is read as the value
 pub use Rattle.segment_manager.proofs.objects.Stored.{literal-read, literals-read}
 -- the plans of the commands on a vector or a text, and on an object that is neither
@@ -16,4 +16,4 @@ pub use Rattle.segment_manager.proofs.containers.ElementRuns.{IsSliceOfKind, AnA
 pub use Rattle.segment_manager.proofs.containers.ElementRuns.{series-element}
 pub use Rattle.segment_manager.proofs.containers.ElementRuns.{run-kind}
 -- reading one element in the run of an object
-pub use Rattle.segment_manager.proofs.objects.ElementReads.{run-past, run-reads, run-refused}
+pub use Rattle.segment_manager.proofs.objects.ArrayItems.{run-past, run-reads, run-refused}

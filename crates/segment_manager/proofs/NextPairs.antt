@@ -1,13 +1,13 @@
 -- The pairs of a map one after another, for the crates that write them: the walk is at the pair with an index.
-use Rattle.segment_manager.proofs.Common.{◌≡◌, ℕ, zero, suc, ◌+◌, List, [], ◌∷◌, Option, Some, None, Ok, slice_get}
-use Rattle.segment_manager.proofs.Common.{refl, sym, ap, ◌∙◌, arith, option_map, Map, ScalarKind, ScalarValue, ByHandle}
-use Rattle.segment_manager.proofs.Common.{kind_of_scalar, value_of_scalar, NumberPair, item_of, Directory, pair_above}
-use Rattle.segment_manager.proofs.Common.{AnswersWith, SegmentState, DenotesCurrent, IsMap, first_of, item_of_kinds}
-use Rattle.segment_manager.proofs.Common.{item_seen}
-use Rattle.segment_manager.proofs.{Common.pairs_at, containers.PairWalks.first-at, containers.PairWalks.walk-next}
-use Rattle.segment_manager.specs.{Parts.part_of, containers.Walks.KindedPair}
+use Rattle.segment_manager.proofs.Common.{AnswersWith, ByHandle, DenotesCurrent, Directory, IsMap, List, Map, None}
+use Rattle.segment_manager.proofs.Common.{NumberPair, Ok, Option, ScalarKind, ScalarValue, SegmentState, Some, [], ap}
+use Rattle.segment_manager.proofs.Common.{arith, first_of, item_of, item_of_kinds, kind_of_scalar, option_map}
+use Rattle.segment_manager.proofs.Common.{pair_above, pairs_at, refl, slice_get, suc, sym, value_of_scalar, zero, ℕ}
+use Rattle.segment_manager.proofs.Common.{◌+◌, ◌∙◌, ◌∷◌, ◌≡◌}
+use Rattle.segment_manager.proofs.containers.PairNumbers.{first-at, walk-next}
+use Rattle.segment_manager.specs.{Parts.part_of, containers.Walks.KindedPair, containers.Walks.item_seen}
 -- what is read of a map is read of its pairs, and its first pair is the one from the least key on
-pub use Rattle.segment_manager.proofs.containers.PairWalks.{first-walked, pair-walked}
+pub use Rattle.segment_manager.proofs.containers.PairNumbers.{first-walked, pair-walked}
 
 -- the next pair is the one at a place
 abbrev pub IsNext : SegmentState → ℕ → ScalarKind → ScalarKind → Option (ScalarValue × ScalarValue) → ℕ → Type 0

@@ -1,5 +1,2 @@
 -- Objects that are bound: their places, and their calls as calls for a key.
 pub mod ByKey
-pub mod Changes
-pub mod Places
-pub mod SliceCalls

@@ -1,4 +1,2 @@
-//! Blocks and gaps: their report, walks over them, the blocks of a new object, and the end of a segment.
-pub(crate) mod requesting;
-pub(crate) mod sizing;
+//! Blocks and gaps: their report, and walks over them.
 pub(crate) mod tiles;

@@ -1,9 +1,4 @@
-//! Objects that are vectors, strings and maps: calls that construct, read and change them, with the blocks of their
-//! contents. The elements of arrays of scalars are read and changed here too.
-pub(crate) mod constructing_containers;
+//! Objects that are vectors, strings and maps: their initial contents, their capacity, and their elements' places.
 pub(crate) mod element_runs;
 pub(crate) mod fillings;
-pub(crate) mod maps;
-pub(crate) mod slices;
 pub(crate) mod storage;
-pub(crate) mod texts;

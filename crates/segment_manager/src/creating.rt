@@ -1,11 +1,13 @@
-//! Creates an empty segment, and moves a segment to another region.
-ghost use Rattle.std.specs.Prelude.{◌≡◌, ◌%◌, []};
-ghost use Rattle.raw_region.specs.{Memory.AreZero, Memory.SameBytesExcept, Memory.SameSurroundings, Memory.bytes_of};
-ghost use Rattle.raw_region.specs.{Format.current};
+//! Creates an empty segment, moves a segment to another region, and moves the end of a segment in its region.
+ghost use Rattle.std.specs.Prelude.{[], false, ◌%◌, ◌+◌, ◌≡◌, ◌≤◌};
+ghost use Rattle.raw_region.specs.Format.{current};
+ghost use Rattle.raw_region.specs.Memory.{AreZero, SameBytesExcept, SameSurroundings, bytes_of};
 ghost use Rattle.best_fit.specs.{Heap.EncodesLiveSet, Heap.live_of, Table.no_backing};
 ghost use Rattle.seg_index.specs.Index.{IsIndexAt};
-ghost use Rattle.segment_manager.specs.{Calls.Creates, Denotes.IsHeader, Relocating.Relocates};
+ghost use Rattle.segment_manager.specs.{Calls.Creates, Directory.Directory, Relocating.Relocates, State.DenotesCurrent};
+ghost use Rattle.segment_manager.specs.{Denotes.IsHeader, Step.is_read_only};
 ghost use Rattle.segment_manager.specs.Layout.{header_len, named_at, reserved_at, unique_at};
+ghost use Rattle.segment_manager.specs.blocks.Resized.{Resizes, grown, room_behind, shrunk};
 
 use crate::errors::{CreateError, CreateRefused, RelocateRefused};
 use crate::layout::{FORMAT, FORMAT_AT, MAGIC, MAGIC_AT, NAMED_AT, SIZE_AT, UNIQUE_AT};
@@ -14,7 +16,7 @@ use crate::segment::Segment;
 use best_fit::Heap;
 use block_tags::is_legal_size;
 use offset_link::NULL;
-use raw_region::{RawRegion, Window};
+use raw_region::{RawRegion, Steps, Window};
 
 impl Segment {
     /// Makes an empty segment of the `size` bytes of the region from `base` on. It sets these bytes to 0, except the
@@ -102,4 +104,46 @@ fn write_header(heap: &mut Heap, size: u64)
     heap.set_header_word(SIZE_AT, size);
     heap.set_header_word(NAMED_AT, NULL);
     heap.set_header_word(UNIQUE_AT, NULL);
+}
+
+/// Lengthens the segment by `extra` bytes of its region. They become a gap, or part of the gap at the old end. Every
+/// object keeps its handle and its value.
+///
+/// Example: `extend_end(&mut segment, 1024)`.
+///
+/// # Conditions
+///
+/// `grow_shrink::grow` tests these and has no condition:
+/// - the segment is open for writing;
+/// - `extra` is a multiple of 16, at least 32;
+/// - the new size is at most 1073741824;
+/// - the region has room for it.
+pub fn extend_end(segment: &mut Segment, extra: u64)
+    requires writing { is_read_only segment.old.mode ≡ false }
+    requires min_len { 32 ≤ extra }
+    requires multiple { extra % 16 ≡ 0 }
+    requires max_size { (d : Directory) → DenotesCurrent segment.old.cut.bytes d → d.size + extra ≤ 1073741824 }
+    requires in_bounds { extra ≤ room_behind segment.old.cut }
+    ensures { Resizes segment.old segment.new (λ d. grown d extra) }
+{
+    segment.heap.extend_end(extra, &mut Steps::new());
+    let size = segment.heap.size();
+    segment.heap.set_header_word(SIZE_AT, size);
+}
+
+/// Shortens the segment by the gap at its end, if there is one, so that it ends after the last block. A segment without
+/// blocks shrinks to 144 bytes. Every object keeps its handle and its value.
+///
+/// Example: `cut_end(&mut segment)`.
+///
+/// # Conditions
+///
+/// The segment is open for writing. `grow_shrink::shrink_to_fit` tests this and has no condition.
+pub fn cut_end(segment: &mut Segment)
+    requires writing { is_read_only segment.old.mode ≡ false }
+    ensures { Resizes segment.old segment.new (λ d. shrunk d) }
+{
+    segment.heap.cut_end(&mut Steps::new());
+    let size = segment.heap.size();
+    segment.heap.set_header_word(SIZE_AT, size);
 }

@@ -1,3 +1,2 @@
-//! The two indexes, of names and of kinds: their capacities, and iterators over their objects.
+//! The two indexes, of names and of kinds: iterators over their objects.
 pub(crate) mod iterating;
-pub(crate) mod reserving;

@@ -28,14 +28,15 @@ pub mod unchecked;
 
 pub use blocks::tiles::{TileInfo, Tiles};
 pub use bound::maps::{Map, MapMut, Pairs};
-pub use bound::slices::{Array, ArrayMut, Fixed, Growable, Slice, SliceStorage, Vector, VectorMut};
+pub use bound::slices::{
+    Array, ArrayMut, Fixed, Growable, Slice, SliceStorage, Vector, VectorMut, push_within,
+};
 pub use bound::texts::{StringBytes, StringMut, StringRef, Strings, StringsMut, Texts};
 pub use bound::{Bound, BoundContent, BoundMut};
 pub use containers::element_runs::ElementRun;
 pub use containers::fillings::{
     NewMap, NewNumbers, NewString, NewTexts, NewVector, ObjectInit, ObjectShape,
 };
-pub use containers::slices::push_within;
 pub use errors::{CreateError, CreateRefused, RelocateRefused};
 pub use indexes::iterating::{Instances, Names};
 pub use modes::Mode;

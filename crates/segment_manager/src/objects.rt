@@ -3,7 +3,6 @@ pub(crate) mod construct_keys;
 pub(crate) mod constructing;
 pub(crate) mod constructing_from;
 pub(crate) mod destroying;
-pub(crate) mod element;
 pub(crate) mod finding;
 pub(crate) mod finding_or_constructing;
 pub(crate) mod finding_or_taking;

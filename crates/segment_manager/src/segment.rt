@@ -10,8 +10,11 @@ use crate::modes::Mode;
 use best_fit::Heap;
 use block_tags::Role;
 use raw_region::{RawRegion, Window};
-use seg_types::Handle;
+use seg_types::{Handle, Refusal};
 use std::marker::Model;
+
+/// The result of a call on a segment. Its error is a `Refusal` unless a call says another.
+pub type Result<T, E = Refusal> = std::result::Result<T, E>;
 
 /// Typed objects under names in one run of bytes, and the mode in which it is open.
 ///

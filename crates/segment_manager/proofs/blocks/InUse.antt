@@ -1,12 +1,12 @@
 -- The blocks of a directory in its live set: each is found by its handle, has the room of its extent, and is at a
 -- multiple of 16.
-use Rattle.segment_manager.proofs.Common.{◌≡◌, Option, IsTrue, IfSome, flat_map, Extent, extent_at, has_room, Directory}
-use Rattle.segment_manager.proofs.Common.{ℕ, ◌+◌, ◌%◌, Some, None, List, [], ◌∷◌, arith, handle, holds, Object, live}
-use Rattle.segment_manager.proofs.Common.{option_to_list, AllByRecursion, LiveSet, is_proper, extents_of, value_extents}
-use Rattle.segment_manager.proofs.{directory.ExtentOrder.IsFoundIn, directory.ExtentOrder.found-each}
-use Rattle.segment_manager.proofs.{directory.ExtentOrder.live-rises, directory.LiveSet.of_each}
-use Rattle.raw_region.proofs.Facts.{no_more, AllByRecursion-behind}
+use Rattle.raw_region.proofs.Facts.{AllByRecursion-behind, no_more}
 use Rattle.best_fit.proofs.Laws.{IsSound, found-room, live-sound}
+use Rattle.segment_manager.proofs.Common.{AllByRecursion, Directory, Extent, IfSome, IsTrue, List, LiveSet, None}
+use Rattle.segment_manager.proofs.Common.{Object, Option, Some, [], arith, extent_at, extents_of, flat_map, handle}
+use Rattle.segment_manager.proofs.Common.{has_room, holds, is_proper, live, option_to_list, value_extents, ℕ, ◌%◌, ◌+◌}
+use Rattle.segment_manager.proofs.Common.{◌∷◌, ◌≡◌}
+use Rattle.segment_manager.proofs.directory.LiveSet.{IsFoundIn, found-each, live-rises, of_each}
 
 -- ---- properties of each extent of a rising list
 

@@ -1,15 +1,16 @@
 -- The plans of the commands on a vector of numbers or a text.
 use Rattle.seg_types.specs.Commands as asked
 use Rattle.segment_manager.specs.Step as step
-use Rattle.segment_manager.proofs.Common.{◌≡◌, ◌∙◌, ◌-◌, ℤ, pos, Ok, Err, [], ◌∷◌, map, U8, Key, live, Plan, with, refl}
-use Rattle.segment_manager.proofs.Common.{Option, Refusal, size_of, Literal, Element, Elements, changed, found_at, ap}
-use Rattle.segment_manager.proofs.Common.{ScalarKind, OutOfRange, with_capacity, storage_of, with_items, with_table, ℕ}
-use Rattle.segment_manager.proofs.Common.{Bool, true, Some, None, List, ◌++◌, take, Done, Value, Bytes, Texts, Reply}
-use Rattle.segment_manager.proofs.Common.{nat_abs, if◌then◌else◌, value_of_literal, capacity_for_one, capacity_for_text}
-use Rattle.segment_manager.proofs.Common.{false, Result, length, insert, remove, nat_lt, BackingArray, Object, Refuse}
-use Rattle.segment_manager.proofs.Common.{effect, slice_get, slice_set, shrunk_backing, WrongKind, Directory, object_at}
-use Rattle.segment_manager.proofs.{Common.values_of, directory.CommandSteps.with-found}
-use Rattle.segment_manager.specs.Step.{text_among, text_of}
+use Rattle.segment_manager.proofs.Common.{BackingArray, Bool, Bytes, Directory, Done, Element, Elements, Err, Key, List}
+use Rattle.segment_manager.proofs.Common.{Literal, None, Object, Ok, Option, OutOfRange, Plan, Refusal, Refuse, Reply}
+use Rattle.segment_manager.proofs.Common.{Result, ScalarKind, Some, Texts, U8, Value, WrongKind, [], ap}
+use Rattle.segment_manager.proofs.Common.{capacity_for_one, capacity_for_text, changed, effect, false, found_at}
+use Rattle.segment_manager.proofs.Common.{if◌then◌else◌, insert, length, live, map, nat_abs, nat_lt, object_at, pos}
+use Rattle.segment_manager.proofs.Common.{refl, remove, shrunk_backing, size_of, slice_get, slice_set, storage_of, take}
+use Rattle.segment_manager.proofs.Common.{true, value_of_literal, values_of, with, with_capacity, with_items}
+use Rattle.segment_manager.proofs.Common.{with_table, ℕ, ℤ, ◌++◌, ◌-◌, ◌∙◌, ◌∷◌, ◌≡◌}
+use Rattle.segment_manager.proofs.directory.AnyDirectory.{with-found}
+use step.{text_among, text_of}
 
 -- an element that is read or removed, if the index is in range
 abbrev pub of_slice : Option ℤ → Result ℤ Refusal

@@ -1,9 +1,9 @@
 -- What calls on vectors of strings leave to the last byte.
-use Rattle.segment_manager.proofs.Common.{◌≡◌, sym, ap, subst, ◌∙◌, ℕ, ◌≤◌, Option, Some, None, Result, Ok, Err}
-use Rattle.segment_manager.proofs.Common.{WindowState, StringsKind, Refusal, NotFound, Key, Place, container_at}
-use Rattle.segment_manager.proofs.Common.{sizes_of, Object, Directory, object_at, HasCapacity, UnchangedWhere}
-use Rattle.segment_manager.proofs.Common.{AnswersWith, SegmentState, DenotesCurrent, Change, HasEnough, Reserve}
-use Rattle.segment_manager.proofs.containers.{TextsHeld.HoldsTexts, TextsHeld.holds-texts, ToChange.seen-found}
+use Rattle.segment_manager.proofs.Common.{AnswersWith, Change, DenotesCurrent, Directory, Err, HasCapacity, HasEnough}
+use Rattle.segment_manager.proofs.Common.{Key, None, NotFound, Object, Ok, Option, Place, Refusal, Reserve, Result}
+use Rattle.segment_manager.proofs.Common.{SegmentState, Some, StringsKind, UnchangedWhere, WindowState, ap}
+use Rattle.segment_manager.proofs.Common.{container_at, object_at, sizes_of, subst, sym, ℕ, ◌∙◌, ◌≡◌, ◌≤◌}
+use Rattle.segment_manager.proofs.containers.{MapSteps.HoldsTexts, MapSteps.holds-texts, ToChange.seen-found}
 use Rattle.segment_manager.specs.containers.Stored.{ChangesTexts}
 
 -- the window is as it was, and so is the segment

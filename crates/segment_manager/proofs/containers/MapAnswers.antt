@@ -2,25 +2,26 @@
 -- map.
 use Rattle.std.proofs.Common.{length, ℕ}
 use Rattle.best_fit.specs.declared.places.Place.{Place}
-use Rattle.seg_map.specs.Places.{last_pair}
+use Rattle.seg_types.specs.Commands.{Put, Remove}
 use Rattle.seg_map.specs.{Changing.CountsPairs, Listing.HasNode, Listing.ListsNodes, Listing.ReadsNode}
-use Rattle.segment_manager.proofs.Common.{ErasesKey, Err, FindsItem, FindsItemBefore, FindsLastItem, FindsValue, IfErr}
-use Rattle.segment_manager.proofs.Common.{IsSegment, IsSomeMap, Key, List, Located, Lookup, Map, MatchOption, NoSpace}
-use Rattle.segment_manager.proofs.Common.{None, NumberPair, Object, Ok, Option, Plain, Put, PutsPair, Refusal, Remove}
-use Rattle.segment_manager.proofs.Common.{Result, ScalarKind, SegmentState, Some, UnchangedWhere, WindowState, []}
-use Rattle.segment_manager.proofs.Common.{answer_of_map, ap, container_at, false, int_lt, is_read_only, is_value}
-use Rattle.segment_manager.proofs.Common.{item_of, literal_of, none-some, numbers_in, option_map, pair_at, pair_at_end}
-use Rattle.segment_manager.proofs.Common.{pairs_at, pairs_of, refl, subst, sym, true, truth_answer, value_or_absent, ℤ}
-use Rattle.segment_manager.proofs.Common.{◌∙◌, ◌≡◌, AnswersQueryOfKind, AnswersWith, Bool, DenotesCurrent, Directory}
-use Rattle.segment_manager.proofs.bound.{Changes.Changed, Changes.leaves-bound, Places.container-here}
+use Rattle.seg_map.specs.Places.{last_pair}
+use Rattle.segment_manager.proofs.Common.{AnswersQueryOfKind, AnswersWith, Bool, DenotesCurrent, Directory, ErasesKey}
+use Rattle.segment_manager.proofs.Common.{Err, FindsItem, FindsItemBefore, FindsLastItem, FindsValue, IfErr, IsSegment}
+use Rattle.segment_manager.proofs.Common.{IsSomeMap, Key, List, Located, Lookup, Map, MatchOption, NoSpace, None}
+use Rattle.segment_manager.proofs.Common.{NumberPair, Object, Ok, Option, Plain, PutsPair, Refusal, Result, ScalarKind}
+use Rattle.segment_manager.proofs.Common.{SegmentState, Some, UnchangedWhere, WindowState, [], answer_of_map, ap}
+use Rattle.segment_manager.proofs.Common.{container_at, false, int_lt, is_read_only, is_value, item_of, literal_of}
+use Rattle.segment_manager.proofs.Common.{none-some, numbers_in, option_map, pair_at, pairs_at, pairs_of, refl, subst}
+use Rattle.segment_manager.proofs.Common.{sym, true, truth_answer, value_or_absent, ℤ, ◌∙◌, ◌≡◌}
+use Rattle.segment_manager.proofs.bound.ByKey.{Changed, container-here, leaves-bound}
+use Rattle.segment_manager.proofs.containers.{KeptContainers.keeps-cut, Safely.answered, ToChange.seen-found}
 use Rattle.segment_manager.proofs.containers.MapCalls.{HoldsPairs, TellsSafely, holds-pairs, map-erased, map-got}
 use Rattle.segment_manager.proofs.containers.MapCalls.{map-listed, map-put, map-told, put_result, stands-map}
 use Rattle.segment_manager.proofs.containers.PairNumbers.{IsScalarOf, counts-numbers, counts-past, erases-numbers}
 use Rattle.segment_manager.proofs.containers.PairNumbers.{finds-back, finds-item, finds-last, finds-value, has-node}
 use Rattle.segment_manager.proofs.containers.PairNumbers.{nodes-past, puts-numbers, reads-node, some-map}
-use Rattle.segment_manager.proofs.containers.{KeptContainers.keeps-cut, Safely.answered, ToChange.seen-found}
 use Rattle.segment_manager.specs.Keeping.{ChangesValue, LacksPair}
-use Rattle.segment_manager.specs.containers.Maps.{IsPairs, count_read, nodes_read}
+use Rattle.segment_manager.specs.containers.Maps.{IsPairs, count_read, nodes_read, pair_at_end}
 use Rattle.segment_manager.specs.containers.Walks.{HasPairNode, ReadsPairNode, pair_past, pairs_at_kinds}
 use Rattle.segment_manager.specs.objects.BoundObjects.{IsBound, container_of, key_of}
 

@@ -3,14 +3,14 @@
 use Rattle.link_tree.specs.Nodes.{is_in}
 use Rattle.best_fit.specs.Fit.{insert}
 use Rattle.seg_types.specs.ScalarLaws.{total}
-use Rattle.segment_manager.proofs.Common.{IsTrue, List, LiveSet, None, NumberPair, Object, Option, Some, [], ap, arith}
-use Rattle.segment_manager.proofs.Common.{extents_of, false, find, handle, if◌then◌else◌, int_lt, is_key, is_proper}
-use Rattle.segment_manager.proofs.Common.{live, map, ne_eqb, nodes_of_pairs, not, pair_at, put_pair, refl, remove_pair}
-use Rattle.segment_manager.proofs.Common.{subst, sym, true, value_extents, ℕ, ℤ}
-use Rattle.segment_manager.proofs.Common.{◌++◌, ◌==◌, ◌||◌, ◌∙◌, ◌∷◌, ◌≡◌, ◌≢◌, AllByRecursion, Bool, Directory, Extent}
-use Rattle.segment_manager.proofs.directory.ExtentOrder.{Apart, Differs, IsFoundIn, IsFresh, Rising, all_of-inserted}
-use Rattle.segment_manager.proofs.directory.ExtentOrder.{found-each, inserted, live-rises, rising-insert}
-use Rattle.segment_manager.proofs.directory.{ExtentOrder.rising-inserted, LiveSet.IsIn, LiveSet.live-split}
+use Rattle.segment_manager.proofs.Common.{AllByRecursion, Bool, Directory, Extent, IsTrue, List, LiveSet, None}
+use Rattle.segment_manager.proofs.Common.{NumberPair, Object, Option, Some, [], ap, arith, extents_of, false, find}
+use Rattle.segment_manager.proofs.Common.{handle, if◌then◌else◌, int_lt, is_key, is_proper, live, map, ne_eqb}
+use Rattle.segment_manager.proofs.Common.{nodes_of_pairs, not, pair_at, put_pair, refl, remove_pair, subst, sym, true}
+use Rattle.segment_manager.proofs.Common.{value_extents, ℕ, ℤ, ◌++◌, ◌==◌, ◌||◌, ◌∙◌, ◌∷◌, ◌≡◌, ◌≢◌}
+use Rattle.segment_manager.proofs.directory.LiveSet.{Apart, Differs, IsFoundIn, IsFresh, IsIn, Rising, all_of-inserted}
+use Rattle.segment_manager.proofs.directory.LiveSet.{found-each, inserted, live-rises, live-split, rising-insert}
+use Rattle.segment_manager.proofs.directory.LiveSet.{rising-inserted}
 use Rattle.segment_manager.proofs.objects.Regrown.{rest, with_extents}
 
 -- ---- lists that are apart

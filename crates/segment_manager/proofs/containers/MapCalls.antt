@@ -3,30 +3,29 @@
 use Rattle.segment_manager.proofs.Common as common
 use Rattle.seg_types.specs.Commands as asked
 use Rattle.segment_manager.specs.Step as step
-use Rattle.segment_manager.proofs.containers.PairCommands as plan
-use common.{◌≡◌, is_value, ErasesPair, node_len, put_pair, Directory, object_at, HasPairs, IsSegment, DenotesCurrent}
-use common.{cons_values, refl, Option, Result, int_lt, eq-eqb, ErasesKey, told_of, Request, perform, AnswersWith}
-use common.{changed, live_of, LiveSet, sym, ◌∙◌, ℕ, ℤ, Bool, true, Some, None, Ok, Err, List, [], WindowState, Node}
-use common.{Kind, Map, Key, PutsPair, New, Plan, with, ap, subst, false, PutsNoSpace, PutsNewPair, Boolean, Pairs}
-use common.{Object, container_place, Reply, SegmentState, effect, map_of, Answer, Extent, option_map, value_of_literal}
-use common.{nodes_of_pairs, value_of_pair, AnswersSafely, value_or_absent, current, Refusal, NoSpace, code_of, size_of}
-use common.{Command, Literal, pair_at, Element, Refused, Denotes, kind_of, SameSurroundings, remove_pair, container_at}
-use common.{AnswersQueryOfKind, TakesStepOfKind, is_read_only, step_of_kind, truth_answer, ScalarKind, same_kind}
-use common.{literal_of, transitive, OverwritesPair, NumberPair, FindsValue, numbers_of, answer_of_map}
-use Rattle.segment_manager.proofs.containers.MapSteps.{IsMapObject, again-denotes, erased-denotes, map-only, object-map}
-use Rattle.segment_manager.proofs.directory.CommandSteps.{IsMove, IsOpenFor, by_no_change_of_kind, by_step_of_kind}
-use Rattle.segment_manager.proofs.directory.CommandSteps.{open-reading, open-writing, perform-new, perform-no_space}
-use Rattle.segment_manager.proofs.containers.Refilled.{HoldsAt, holds-at, told-some}
-use Rattle.segment_manager.proofs.{containers.MapSteps.put-denotes, directory.HeapCalls.denotes-live}
-use Rattle.segment_manager.proofs.{objects.ObjectLists.key-found, objects.Here.standing, objects.Stored.literal-read}
-use Rattle.segment_manager.proofs.directory.CommandSteps.{step_of_kind-found}
-use Rattle.segment_manager.proofs.containers.PairNumbers.{ErasesBy, PutsBy}
-use Rattle.segment_manager.proofs.containers.MapBlocks.{blocks-in_use, found-key}
-use Rattle.segment_manager.proofs.{containers.StorageSteps.step_of_kind-reply, objects.ElementLists.list-of}
+use Rattle.segment_manager.proofs.containers.Changeable as plan
 use Rattle.best_fit.specs.declared.places.Place.{Place}
 use Rattle.seg_map.proofs.Laws.{replaced_nodes}
-use Rattle.segment_manager.specs.{Answers.Absent, containers.Maps.IsPairs}
-use Rattle.segment_manager.specs.containers.Walks.{pairs_at_kinds, pairs_of}
+use Rattle.segment_manager.proofs.{containers.MapSteps.put-denotes, objects.Stored.list-of, objects.Stored.literal-read}
+use Rattle.segment_manager.proofs.containers.ItemSteps.{HoldsAt, holds-at, step_of_kind-reply, told-some}
+use Rattle.segment_manager.proofs.containers.MapBlocks.{blocks-in_use, found-key}
+use Rattle.segment_manager.proofs.containers.MapSteps.{IsMapObject, again-denotes, erased-denotes, map-only, object-map}
+use Rattle.segment_manager.proofs.containers.PairNumbers.{ErasesBy, PutsBy}
+use Rattle.segment_manager.proofs.directory.AnyDirectory.{IsMove, IsOpenFor, by_no_change_of_kind, by_step_of_kind}
+use Rattle.segment_manager.proofs.directory.AnyDirectory.{denotes-live, open-reading, open-writing, perform-new}
+use Rattle.segment_manager.proofs.directory.AnyDirectory.{perform-no_space, step_of_kind-found}
+use Rattle.segment_manager.proofs.objects.{Destroys.standing, RankedPairs.key-found}
+use Rattle.segment_manager.specs.Answers.{Absent}
+use Rattle.segment_manager.specs.containers.{Maps.IsPairs, Walks.pairs_at_kinds, Walks.pairs_of}
+use common.{Answer, AnswersQueryOfKind, AnswersSafely, AnswersWith, Bool, Boolean, Command, Denotes, DenotesCurrent}
+use common.{Directory, Element, ErasesKey, ErasesPair, Err, Extent, FindsValue, HasPairs, IsSegment, Key, Kind, List}
+use common.{Literal, LiveSet, Map, New, NoSpace, Node, None, NumberPair, Object, Ok, Option, OverwritesPair, Pairs}
+use common.{Plan, PutsNewPair, PutsNoSpace, PutsPair, Refusal, Refused, Reply, Request, Result, SameSurroundings}
+use common.{ScalarKind, SegmentState, Some, TakesStepOfKind, WindowState, [], answer_of_map, ap, changed, code_of}
+use common.{cons_values, container_at, container_place, current, effect, eq-eqb, false, int_lt, is_read_only, is_value}
+use common.{kind_of, literal_of, live_of, map_of, node_len, nodes_of_pairs, numbers_of, object_at, option_map, pair_at}
+use common.{perform, put_pair, refl, remove_pair, same_kind, size_of, step_of_kind, subst, sym, told_of, transitive}
+use common.{true, truth_answer, value_of_literal, value_of_pair, value_or_absent, with, ℕ, ℤ, ◌∙◌, ◌≡◌}
 
 -- ---- the search
 

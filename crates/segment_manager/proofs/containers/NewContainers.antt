@@ -1,16 +1,16 @@
 -- A vector of numbers or a text as the value of a new object, with its elements in storage for just this many.
 use Rattle.segment_manager.proofs.Common as common
-use common.{◌≡◌, refl, sym, ap, subst, ◌∙◌, ℕ, ℤ, Bool, Some, None, Ok, Err, Result, List, [], length, map, IsTrue}
-use common.{MatchResult, option_to_list, length-map, current, WindowState, bytes_of, ExchangesBlocks, ChangesBytes}
-use common.{live_of, BackingArray, IsHeap, no_backing, keeps-refl, laid-heap, ScalarKind, Refusal, NoSpace, Content}
-use common.{Place, IsContainer, place_at, grown_backing, Assigns, GrowsVectorOk, LacksSpace, Contents, flat_map}
-use common.{are_bytes, contents_of, has_values, Value, Elements, Bytes, count_of, kind_of, value_extents, value_len}
-use common.{MakesValueOk, MakesValueErr, MakesValue, Plan, bare, perform, with_storage, with_value}
-use Rattle.segment_manager.proofs.objects.MadeValues.{storage-met, storage-none, stored}
-use Rattle.segment_manager.proofs.objects.WholeNumbers.{IsOfKind, whole-spelled, whole-values}
 use Rattle.seg_types.specs.Commands as asked
-use Rattle.segment_manager.proofs.containers.Contained.{contents-good, value-said}
 use Rattle.seg_vector.specs.{TextCalls.MakesText, VectorCalls.InitsVector}
+use Rattle.segment_manager.proofs.containers.ItemSteps.{contents-good, value-said}
+use Rattle.segment_manager.proofs.objects.Exchanged.{storage-met, storage-none, stored}
+use Rattle.segment_manager.proofs.objects.Stored.{IsOfKind, whole-spelled, whole-values}
+use common.{Assigns, BackingArray, Bool, Bytes, ChangesBytes, Content, Contents, Elements, Err, ExchangesBlocks}
+use common.{GrowsVectorOk, IsContainer, IsHeap, IsTrue, LacksSpace, List, MakesValue, MakesValueErr, MakesValueOk}
+use common.{MatchResult, NoSpace, None, Ok, Place, Plan, Refusal, Result, ScalarKind, Some, Value, WindowState, [], ap}
+use common.{are_bytes, bare, bytes_of, contents_of, count_of, current, flat_map, grown_backing, has_values, keeps-refl}
+use common.{kind_of, laid-heap, length, length-map, live_of, map, no_backing, option_to_list, perform, place_at, refl}
+use common.{subst, sym, value_extents, value_len, with_storage, with_value, ℕ, ℤ, ◌∙◌, ◌≡◌}
 
 abbrev contents : ℕ → ℕ → List ℕ → BackingArray → Contents
 contents each len bytes t = record { each = each; len = len; table = t; bytes = bytes }

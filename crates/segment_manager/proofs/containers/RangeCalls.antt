@@ -1,34 +1,48 @@
 -- Elements of arrays and vectors that one call writes: the result in each directory.
 use Rattle.segment_manager.proofs.Common as common
+use Rattle.std.proofs.lemmas.{Bool.leb-false, List.Folds.list_all-append}
 use Rattle.std.proofs.lemmas.List.{drop-map, length-drop, length-take, nil_from_length, take-append-drop}
-use Rattle.std.proofs.lemmas.{Bool.and_parts, Bool.leb-false, List.Folds.list_all-append}
-use Rattle.std.specs.Prelude.{IfOk, OnOk}
+use Rattle.std.specs.Prelude.{IfOk}
 use Rattle.raw_region.proofs.Bytes.{HasBytesAt-patched}
 use Rattle.best_fit.proofs.Laws.{gaps-payload}
 use Rattle.best_fit.specs.Heap.{KeepsGaps}
 use Rattle.seg_vector.proofs.storage.TypedVectors.{all-both, flat-replaced}
-use Rattle.segment_manager.proofs.blocks.Blocks.{spelled-length, spelling-length}
+use Rattle.seg_vector.specs.{Elements.FreesStorage, Elements.FreesStorageOk, TextsCalls.ReleasesTexts}
+use Rattle.seg_vector.specs.Containers.{IsStanding}
+use Rattle.seg_map.specs.Changing.{FreesAllPairs}
+use Rattle.segment_manager.proofs.{blocks.Blocks.spelled-length, blocks.Blocks.spelling-length, directory.LiveSet.IsIn}
+use Rattle.segment_manager.proofs.containers.ElementRuns.{HoldsElements, holds-elements, nothing-left}
+use Rattle.segment_manager.proofs.containers.Emptied.{IsEmptied, changed-itself, emptied-is, emptied-numbers}
+use Rattle.segment_manager.proofs.containers.ItemSteps.{Shape, contents-shape, good-with, placed, start-place}
+use Rattle.segment_manager.proofs.containers.ItemSteps.{told-some, value-said}
+use Rattle.segment_manager.proofs.containers.MapCalls.{HoldsPairs, holds-pairs}
+use Rattle.segment_manager.proofs.containers.MapSteps.{HoldsTexts, holds-texts}
 use Rattle.segment_manager.proofs.containers.Safely.{Performed, performed}
-use Rattle.segment_manager.proofs.directory.CommandSteps.{IsMove, by_moves, by_same, moves-same, stays-refl}
-use Rattle.segment_manager.proofs.directory.{Frame.object-roomy, HeapCalls.denotes-heap}
-use Rattle.segment_manager.proofs.objects.WholeNumbers.{IsOfKind, whole-spelled, whole-values}
-use Rattle.segment_manager.proofs.objects.{Exchanged.denotes-rewritten, KindCodes.code-read, KindCodes.numbers-only}
-use Rattle.segment_manager.proofs.objects.{Here.standing, Stored.ElementAt, Stored.element-found, Stored.numbers-good}
-use Rattle.segment_manager.proofs.objects.{Locating.said-at, Locating.same-object, Standings.standing-room}
-use Rattle.segment_manager.proofs.objects.{ObjectLists.key-found, Rewritten.value_start, Written.numbers-object}
+use Rattle.segment_manager.proofs.directory.{AnyDirectory.stays-refl, Frame.object-roomy}
+use Rattle.segment_manager.proofs.directory.AnyDirectory.{IsMove, by_moves, by_same, denotes-heap, moves-same}
+use Rattle.segment_manager.proofs.objects.{Destroys.IsReadAt, Destroys.standing, Locating.said-at, Locating.same-object}
+use Rattle.segment_manager.proofs.objects.{KindCodes.code-read, KindCodes.numbers-only, Standings.standing-room}
+use Rattle.segment_manager.proofs.objects.Exchanged.{Exchange, between, denotes-container, denotes-rewritten}
+use Rattle.segment_manager.proofs.objects.RankedPairs.{all-found, each-true, found-handle, key-found}
+use Rattle.segment_manager.proofs.objects.Rewritten.{value_start, with_value}
+use Rattle.segment_manager.proofs.objects.Stored.{ElementAt, IsOfKind, element-found, numbers-good, numbers-object}
+use Rattle.segment_manager.proofs.objects.Stored.{whole-spelled, whole-values}
+use Rattle.segment_manager.specs.{containers.Stored.each_of, objects.ElementLists.numbers_in}
+use Rattle.segment_manager.specs.containers.{Maps.ReleasesPairs, Ranges.with_range, Ranges.written, Ranges.written_if}
 use Rattle.segment_manager.specs.containers.Ranges.{ChangesRange, WritesRange, numbers_if, range_in, replaced}
-use Rattle.segment_manager.specs.containers.Ranges.{with_range, written, written_if}
-use Rattle.segment_manager.specs.objects.ElementLists.{numbers_in}
 use Rattle.segment_manager.specs.objects.{Located.located, Located.value_offset, Standing.offset_in, Standing.place_at}
-use common.{DenotesCurrent, Directory, Done, Elements, Err, HasBytesAt, IsLocated, IsObjectInBlock, IsSegment, IsTrue}
-use common.{IsValueAt, Key, Kind, List, Located, Mode, None, NotFound, Numbers, Object, Ok, Option, OutOfRange, Place}
-use common.{ReadOnly, Refusal, Refused, Result, SameBytesExcept, Scalar, ScalarKind, SegmentState, Some, Value, Vector}
-use common.{WindowState, WrongKind, [], ap, arith, bytes_of, changed, code_of, count_of, current, drop, eq-eqb, false}
-use common.{flat_map, handle, has_room, head_len, if◌then◌else◌, is_read_only, is_value, kind_of, kind_of_code, le-leb}
-use common.{leb-true, length, length-append, length-map, list_all, live_of, lt-leb, map, map-append, mul-le-mul_left}
-use common.{nat_le, ne_eqb, object_at, padded, refl, same_Some, same_kind, size_of, spelled, spelling, subst, sym, take}
-use common.{take-map, true, value_extents, value_len, with_items, ℕ, ℤ}
-use common.{◌*◌, ◌++◌, ◌+◌, ◌<◌, ◌||◌, ◌∙◌, ◌≡◌, ◌≤◌, Answer, BackingArray, Bool, ByHandle, ChangesBytes, Denotes}
+use common.{Answer, BackingArray, Becomes, Bool, ByHandle, ChangesBytes, Denotes, DenotesCurrent, Directory, Done}
+use common.{Elements, Empties, Err, ExchangesBlocks, Extent, HasBytesAt, HasObject, HasPairs, Head, HoldsObject}
+use common.{IsHeadOf, IsLocated, IsObjectInBlock, IsSegment, IsTextsContainer, IsTrue, IsValueAt, Key, Kind, List}
+use common.{Located, Map, Mode, None, NotFound, Numbers, Object, Ok, Option, OutOfRange, Pairs, Place, ReadOnly}
+use common.{Refusal, Refused, ReplacesTexts, Result, SameBytesExcept, Scalar, ScalarKind, SegmentState, Some}
+use common.{StringsKind, Texts, Value, Vector, WindowState, WrongKind, [], and_parts, ap, append-nil, arith, bytes_of}
+use common.{changed, code_of, container_at, container_place, count_of, current, drop, emptied, eq-eqb, false, flat_map}
+use common.{handle, has_key, has_room, has_storage, head_len, if◌then◌else◌, is_object, is_read_only, is_value, kind_of}
+use common.{kind_of_code, le-leb, leb-true, length, length-append, length-map, list_all, live_of, lt-leb, map}
+use common.{map-append, mul-le-mul_left, nat_le, ne_eqb, no_backing, numbers_of, object_at, padded}
+use common.{place_at as place_from, refl, same_Some, same_kind, size_of, spelled, spelling, subst, sym, take, take-map}
+use common.{true, value_extents, value_len, with_items, ℕ, ℤ, ◌*◌, ◌++◌, ◌+◌, ◌<◌, ◌||◌, ◌∙◌, ◌≡◌, ◌≤◌}
 
 -- ---- a list with others in the places from one on
 
@@ -48,11 +62,6 @@ all-parts : {T : Type 0} (test : T → Bool) (n : ℕ) (xs : List T) → IsTrue 
     → IsTrue (list_all test (take n xs)) × IsTrue (list_all test (drop n xs))
 all-parts test n xs v = and_parts (list_all test (take n xs)) (list_all test (drop n xs))
     (sym (list_all-append test (take n xs) (drop n xs)) ∙ ap (list_all test) (take-append-drop n xs) ∙ v)
-
-pub all-replaced : {T : Type 0} (test : T → Bool) (xs : List T) (i : ℕ) (ys : List T) → IsTrue (list_all test xs)
-    → IsTrue (list_all test ys) → IsTrue (list_all test (replaced xs i ys))
-all-replaced test xs i ys v w = all-both test (take i xs) (ys ++ drop (i + length ys) xs) (all-parts test i xs v).0
-    (all-both test ys (drop (i + length ys) xs) w (all-parts test (i + length ys) xs v).1)
 
 -- overwriting elements overwrites their numbers
 pub whole-replaced : {T : Type 0} (w : T → ℤ) (xs : List T) (i : ℕ) (ys : List T)
@@ -202,7 +211,9 @@ module _ (old new : WindowState) (d : Directory) (key : Key) (o : Object) (k : S
       let step : size_of k * (first + length zs) ≡ size_of k * first + size_of k * length zs = omega arith in
       let inside = mul-le-mul_left (size_of k) fits in
       let new_good = numbers-object o k ns (replaced ns first zs) s.good value (replaced-length ns first zs fits)
-      (all-replaced (is_value k) ns first zs (numbers-good o k ns s.good value) good) in
+      (all-both (is_value k) (take first ns) (zs ++ drop (first + length zs) ns) (all-parts (is_value k) first ns
+      (numbers-good o k ns s.good value)).0 (all-both (is_value k) zs (drop (first + length zs) ns) good (all-parts
+      (is_value k) (first + length zs) ns (numbers-good o k ns s.good value)).1)) in
       let was : HasBytesAt (bytes_of old.bytes) (value_start o) (spelled k ns) =
       subst (λ v. IsValueAt (bytes_of old.bytes) (value_start o) v) value s.said.value in
       let rest = subst (λ n. SameBytesExcept (bytes_of old.bytes) (bytes_of new.bytes) spot n) (sym many) c.rest in
@@ -322,11 +333,6 @@ index_at r k i = elim r as (λ _. Result Place Refusal) [
       [ Ok at ↦ Ok (record { handle = handle o.extent; at = at }) | Err r ↦ Err r ]
 ]
 
--- a property of a success implies another
-pub on_ok-map : {P Q : Type 0} (r : Result (Unit {0}) Refusal) → (P → Q) → OnOk r P → OnOk r Q
-on_ok-map (Ok a) f p = f p
-on_ok-map (Err why) f p = tt
-
 -- ---- the calls
 
 -- whether a range is within the elements, as it is tested
@@ -421,3 +427,157 @@ module _ {T : Type 0} {k : ScalarKind} {w : T → ℤ} {size : ℕ} {test : T �
       subst (λ (u : SegmentState). KeepsGaps u.cut new) view
       (gaps-payload s.cut new o.handle (at + size * length values) (o.handle + at) (size * length values) c room
       (omega arith) (omega arith))
+
+-- What becomes of an object whose contents are released, for each kind of value.
+
+-- ---- the object of a handle
+
+pub held-stands : (b : List ℕ) (h : ℕ) (d : Directory) (o : Object)
+    → DenotesCurrent b d → object_at d (ByHandle h) ≡ Some o → IsObjectInBlock b h o
+held-stands b h d o k e = subst (λ g. IsObjectInBlock b g o) (sym (found-handle h d.objects o (record { is = e })))
+    (standing b d (ByHandle h) o k.denotes e)
+
+-- the object of the handle exists
+pub held-object : (b : List ℕ) (h : ℕ) → HoldsObject b h → HasObject b h
+held-object b h x = (x.object, held-stands b h x.directory x.object x.stands x.is)
+
+-- the place of the object's container, by its head
+abbrev pub place_behind : ℕ → ℕ → Place
+place_behind h at = record { handle = h; at = at }
+
+pub behind-head : (b : List ℕ) (h at : ℕ) (o : Object) (head : Head) → IsObjectInBlock b h o → IsHeadOf o head
+    → at ≡ head_len + padded head.name_len → container_place o ≡ place_behind h at
+behind-head b h at o head s said e =
+    let there : at ≡ head_len + padded (length o.name) = e ∙ ap (λ (n : ℕ). head_len + padded n) said.name_len in
+    λ i. record { handle = sym s.at i; at = sym there i }
+
+found-container : (d : Directory) (key : Key) (kind : Kind) (o : Object) (p : Place) → object_at d key ≡ Some o
+    → kind_of o.value ≡ kind → container_place o ≡ p → Ok p ≡ container_at d key kind
+found-container d key kind o p e f g = ap Ok (sym g) ∙ sym
+    (told-some d key kind placed o true e (eq-eqb (code_of kind) (code_of (kind_of o.value)) (ap code_of (sym f))))
+
+-- ---- the head
+
+-- the value after the head has elements of one length, or is a vector of texts, or a map
+module _ {b : List ℕ} {h at : ℕ} {head : Head} (said : IsReadAt b h head)
+    (behind : at ≡ head_len + padded head.name_len) {d : Directory} {o : Object} (s : DenotesCurrent b d)
+    (e : object_at d (ByHandle h) ≡ Some o) where
+  read-place : (kind : Kind) → head.kind ≡ kind → Ok (place_behind h at) ≡ container_at d (ByHandle h) kind
+  read-place kind is =
+      let there : IsObjectInBlock b h o = held-stands b h d o s e in
+      found-container d (ByHandle h) kind o (place_behind h at) e (sym (said o there).kind ∙ is)
+      (behind-head b h at o head there (said o there) behind)
+
+  read-elements : has_storage head.kind ≡ true → (head.kind ≡ StringsKind → ⊥)
+      → HoldsElements b d (ByHandle h) head.kind (place_behind h at)
+  read-elements stored no_texts = holds-elements b d (ByHandle h) head.kind (place_behind h at) s.denotes
+      (read-place head.kind refl) stored no_texts
+
+  read-texts : head.kind ≡ StringsKind → HoldsTexts b d (ByHandle h) (place_behind h at)
+  read-texts is = holds-texts b d (ByHandle h) (place_behind h at) s.denotes (read-place StringsKind is)
+
+  read-pairs : (k l : ScalarKind) → head.kind ≡ Map k l → HoldsPairs b d (ByHandle h) k l (place_behind h at)
+  read-pairs k l is = holds-pairs b d (ByHandle h) k l (place_behind h at) s.denotes (read-place (Map k l) is)
+
+module _ (b : List ℕ) (h at : ℕ) (head : Head) (x : HoldsObject b h) (said : IsReadAt b h head)
+    (behind : at ≡ head_len + padded head.name_len) where
+  -- the contents of an object are elements
+  pub some-elements : has_storage head.kind ≡ true → (head.kind ≡ StringsKind → ⊥)
+      → IsStanding b (place_behind h at) (each_of head.kind)
+  some-elements stored no_texts =
+      let e = read-elements said behind x.stands x.is stored no_texts in (e.len, (e.table, (e.bytes, e.stands)))
+
+  -- the contents of an object are strings
+  pub some-texts : head.kind ≡ StringsKind → IsTextsContainer b (place_behind h at)
+  some-texts is = let t = read-texts said behind x.stands x.is is in (t.texts, (t.table, t.stand))
+
+  -- the contents of an object are pairs
+  pub some-pairs : (k l : ScalarKind) → head.kind ≡ Map k l → HasPairs k l b (place_behind h at)
+  some-pairs k l is = let m = read-pairs said behind x.stands x.is k l is in (m.pairs, m.map)
+
+-- ---- the effect on the object
+
+-- numbers have no block to free
+pub number-contents : (old : WindowState) (h : ℕ) (head : Head) → IsReadAt old.bytes h head → (k : ScalarKind)
+    → head.kind ≡ Scalar k → Empties old old h
+number-contents old h head said k is d o s e =
+    let kind : kind_of o.value ≡ Scalar k = sym (said o (held-stands old.bytes h d o s e)).kind ∙ is in
+    let f : IsIn d o = key-found current d (ByHandle h) o s.denotes.directory e in
+    record {
+      place = record { before = refl; after = refl };
+      denotes = subst (Denotes current old.bytes)
+          (sym (changed-itself d o f (emptied o.value) (emptied-numbers k o.value kind))) s.denotes;
+    }
+
+-- All blocks of a container's value are freed, none is allocated, and its 24 bytes are an empty container: the facts
+-- about a call that releases a kind of value.
+container-released : (old new : WindowState) (d : Directory) (key : Key) (o : Object) (p : Place) (v : Value)
+    → Denotes current old.bytes d → object_at d key ≡ Some o → o.value ≡ v → container_place o ≡ p
+    → value_len v ≡ 24 → ExchangesBlocks current old new (place_from p) 24 (value_extents v) []
+    → IsValueAt (bytes_of new.bytes) (place_from p) (emptied v) → Becomes old new (changed d o (emptied o.value))
+container-released old new d key o p v k e is at len change said =
+    let start : place_from p ≡ value_start o = sym (ap place_from at) ∙ sym (start-place o) in
+    let f : IsIn d o = key-found current d key o k.directory e in let empty : IsEmptied o.value = emptied-is o.value in
+    let was : IsTrue (is_object current o) =
+    all-found (λ p. IsTrue (is_object current p)) (has_key (ByHandle (handle o.extent))) d.objects o
+    (each-true (is_object current) d.objects k.directory.objects) f.is in
+    let good : IsTrue (is_object current (with_value o (emptied o.value))) =
+    good-with current o (emptied o.value) was empty.kind empty.len (empty.good (object-roomy current o was).value) in
+    let gone : List Extent = value_extents o.value in
+    let x : Exchange o (with_value o (emptied o.value)) gone [] =
+    between o (with_value o (emptied o.value)) [] gone [] [] (sym (append-nil gone)) empty.alone in
+    record {
+      place = change.place;
+      denotes = denotes-container current old new d o (emptied o.value) gone [] k f x empty.kind empty.count
+          (ap value_len is ∙ len) was good (subst (λ from. ExchangesBlocks current old new from 24 gone []) start
+          (subst (λ w. ExchangesBlocks current old new (place_from p) 24 (value_extents w) []) (sym is) change))
+          (subst (λ from. IsValueAt (bytes_of new.bytes) from (emptied o.value)) start
+          (subst (λ w. IsValueAt (bytes_of new.bytes) (place_from p) (emptied w)) (sym is) said));
+    }
+
+-- the same for elements of one length, for a vector of texts, and for a map
+module _ (old new : WindowState) (h at : ℕ) (head : Head) (said : IsReadAt old.bytes h head)
+    (behind : at ≡ head_len + padded head.name_len) where
+  -- releasing the elements empties the object
+  pub elements-contents : has_storage head.kind ≡ true → (head.kind ≡ StringsKind → ⊥)
+      → FreesStorage old new (place_behind h at) (each_of head.kind) → Empties old new h
+  elements-contents stored no_texts released d o s e =
+      let x = read-elements said behind s e stored no_texts in let p : Object = x.found.object in
+      let same : p ≡ o = same_Some p o (sym x.found.is ∙ e) in
+      let now : FreesStorageOk old new (place_behind h at) (each_of head.kind) x.table =
+      released x.len x.table x.bytes x.stands in
+      let shape : Shape p.value _ = contents-shape p.value _ x.held in
+      subst (λ p. Becomes old new (changed d p (emptied p.value))) same (container-released old new d (ByHandle h) p
+      (place_behind h at) p.value s.denotes x.found.is refl x.found.at shape.len (subst (λ (gone : List Extent).
+      ExchangesBlocks current old new (place_from (place_behind h at)) 24 gone []) (sym shape.extents) now.change)
+      (value-said (bytes_of new.bytes) (place_from (place_behind h at)) (emptied p.value) _ (nothing-left p.value _
+      x.held) now.stands.words))
+
+  -- releasing the strings empties the object
+  pub texts-contents : head.kind ≡ StringsKind → ReleasesTexts old new (place_behind h at) → Empties old new h
+  texts-contents is released d o s e =
+      let x = read-texts said behind s e is in let same : x.object ≡ o = same_Some x.object o (sym x.is ∙ e) in
+      let now : ReplacesTexts old new (place_behind h at) (value_extents (Texts x.texts x.table)) [] [] no_backing =
+      released x.texts x.table x.stand in
+      subst (λ p. Becomes old new (changed d p (emptied p.value))) same
+      (container-released old new d (ByHandle h) x.object (place_behind h at)
+      (Texts x.texts x.table) s.denotes x.is x.value x.at refl now.change now.texts.words)
+
+  -- releasing the pairs empties the object
+  pub pairs-contents : (k l : ScalarKind) → head.kind ≡ Map k l → ReleasesPairs k l old new (place_behind h at)
+      → Empties old new h
+  pairs-contents k l is released d o s e =
+      let x = read-pairs said behind s e k l is in let same : x.object ≡ o = same_Some x.object o (sym x.is ∙ e) in
+      let now : FreesAllPairs (numbers_of k) (numbers_of l) old new h at x.pairs = released.each x.pairs x.map in
+      subst (λ p. Becomes old new (changed d p (emptied p.value))) same
+      (container-released old new d (ByHandle h) x.object (place_behind h at)
+      (Pairs k l x.pairs) s.denotes x.is x.known.value x.at refl now.change now.empty.map)
+
+-- ---- the kinds that are left
+
+-- no numbers, and no map
+pub has_storage-left : (kind : Kind) → ((k : ScalarKind) → kind ≡ Scalar k → ⊥)
+    → ((k v : ScalarKind) → kind ≡ Map k v → ⊥) → has_storage kind ≡ true
+has_storage-left (Scalar k) n m = absurd (n k refl)
+has_storage-left (Map k v) n m = absurd (m k v refl)
+has_storage-left kind n m = refl

@@ -1,12 +1,12 @@
 -- A call on the container of an object that answers nothing: its step, and that it changes nothing where it is refused.
 use Rattle.segment_manager.proofs.Common as common
-use common.{NoSpace, OutOfRange, ◌⊎◌, inl, inr, TakesStep, is_read_only, ◌≡◌, refl, sym, ap, subst, ◌∙◌, false}
-use common.{Result, Ok, Err, OnErr, WindowState, Kind, Refusal, Key, Command, Answer}
-use common.{done_answer, Mode, SameSurroundings, Transitions, Directory, DenotesCurrent, Done, Refused}
-use common.{IsSegment, TakesStepOfKind, SegmentState, AnswersSafely, StepsSafely, IfErr, MatchResult, live_of}
 use Rattle.best_fit.proofs.Laws.{gaps-refl}
 use Rattle.best_fit.specs.Heap.{KeepsGaps}
-use Rattle.segment_manager.proofs.directory.CommandSteps.{IsMove, by_moves, by_same, step-segment, step_of_kind-segment}
+use Rattle.segment_manager.proofs.directory.AnyDirectory.{IsMove, by_moves, by_same, step-segment, step_of_kind-segment}
+use common.{Answer, AnswersSafely, Command, DenotesCurrent, Directory, Done, Err, IfErr, IsSegment, Key, Kind}
+use common.{MatchResult, Mode, NoSpace, Ok, OnErr, OutOfRange, Refusal, Refused, Result, SameSurroundings, SegmentState}
+use common.{StepsSafely, TakesStep, TakesStepOfKind, Transitions, WindowState, ap, done_answer, false, inl, inr}
+use common.{is_read_only, live_of, refl, subst, sym, ◌∙◌, ◌≡◌, ◌⊎◌}
 
 -- the call fails, and nothing has changed
 pub stays : (s : SegmentState) (new : WindowState) (key : Key) (kind : Kind) (c : Command) (e why : Refusal)

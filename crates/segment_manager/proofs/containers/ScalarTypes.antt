@@ -1,6 +1,6 @@
 -- The bound of a type on its values and their numbers, for lemmas on vectors and on maps.
 use Rattle.seg_types.specs.contracts.scalars.Scalar.TheBound.{Met}
-use Rattle.segment_manager.proofs.{containers.PairNumbers.IsScalarOf, objects.WholeNumbers.IsOfKind}
+use Rattle.segment_manager.proofs.{containers.PairNumbers.IsScalarOf, objects.Stored.IsOfKind}
 
 -- a scalar type is of its kind
 pub of-vector : {M U l m r e series s sd p pd c cd : _} → Met {M = M} {𝓤 = U} l m r e series s sd p pd c cd

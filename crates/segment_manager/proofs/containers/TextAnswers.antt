@@ -3,21 +3,21 @@ use Rattle.segment_manager.proofs.Common as common
 use Rattle.std.proofs.Common.{Fits, w8}
 use Rattle.raw_region.proofs.{Bytes.fits-are_bytes, Facts.first, Facts.second}
 use Rattle.best_fit.specs.Heap.{KeepsGaps}
+use Rattle.seg_types.specs.Commands.{Append, Assign}
 use Rattle.seg_vector.proofs.Laws.{same-extents}
-use Rattle.seg_vector.specs.TextCalls.{AppendsText, ReadsText, SetsByte}
+use Rattle.seg_vector.specs.TextCalls.{AppendsText, AssignsText, GrowsTextOk, ReadsText, ReplacesText, SetsByte}
+use Rattle.segment_manager.proofs.{containers.ToChange.seen-found, objects.Stored.literal-read}
 use Rattle.segment_manager.proofs.containers.ContentPlans.{append-plan, set_byte-plan, text-plan}
 use Rattle.segment_manager.proofs.containers.ItemSteps.{HoldsItems, ListedGrown, ListedNow, Listing, changes-safely}
 use Rattle.segment_manager.proofs.containers.ItemSteps.{grows-safely, holds-items, one-kind, so-too, some-items}
 use Rattle.segment_manager.proofs.containers.Safely.{Answered, answered, kept-gaps, same-live}
-use Rattle.segment_manager.proofs.{Common.live_of, containers.ToChange.seen-found, objects.Stored.literal-read}
 use Rattle.segment_manager.specs.containers.{Contents.text_bytes, ToChange.IsChangeableContainer}
-use common.{GrowsTextOk, IsSegment, IsSomeText, IsTrue, Key, List, None, NotFound, Object, Ok, Option, Place, Quoted}
-use common.{Refusal, ReplacesText, Reply, Result, SegmentState, Set, Some, StepsSafely, String, U8, Value, WindowState}
-use common.{[], and_from, ap, are_bytes, arith, bytes_at, capacity_for_text, changed, container_at, done_answer, false}
-use common.{get_or, is_read_only, is_value, kind_of, le-leb, length, literal_of, map, nat_abs, nat_le, nat_lt}
-use common.{option_map, pos, refl, slice_get, slice_get-get_or, slice_get-map, slice_get_past, slice_set, subst, suc}
-use common.{sym, true, zero, ℕ}
-use common.{◌++◌, ◌<◌, ◌∙◌, ◌∷◌, ◌≡◌, AnswersWith, Append, Assign, AssignsText, BackingArray, Bytes, Command, Done, Err}
+use common.{AnswersWith, BackingArray, Bytes, Command, Done, Err, IsSegment, IsSomeText, IsTrue, Key, List, None}
+use common.{NotFound, Object, Ok, Option, Place, Quoted, Refusal, Reply, Result, SegmentState, Set, Some, StepsSafely}
+use common.{String, U8, Value, WindowState, [], and_from, ap, are_bytes, arith, bytes_at, capacity_for_text, changed}
+use common.{container_at, done_answer, false, get_or, is_read_only, is_value, kind_of, le-leb, length, literal_of}
+use common.{live_of, map, nat_abs, nat_le, nat_lt, option_map, pos, refl, slice_get, slice_get-get_or, slice_get-map}
+use common.{slice_get_past, slice_set, subst, suc, sym, true, zero, ℕ, ◌++◌, ◌<◌, ◌∙◌, ◌∷◌, ◌≡◌}
 
 -- ---- bytes
 

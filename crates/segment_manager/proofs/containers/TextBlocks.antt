@@ -1,13 +1,12 @@
 -- The blocks of a vector of texts among all others: each is in use, and all are different. And their change when a part
 -- of the texts is replaced.
-use Rattle.segment_manager.proofs.Common.{◌≡◌, sym, ap, subst, ◌∙◌, ℕ, ◌≢◌, List, [], ◌∷◌, ◌++◌, append_assoc, arith}
-use Rattle.segment_manager.proofs.Common.{option_to_list, AllByRecursion, Extent, handle, BackingArray, SameSpread}
-use Rattle.segment_manager.proofs.Common.{middle-first, AreDistinct, text_blocks, OwnedText, Object, Texts}
-use Rattle.segment_manager.proofs.{Common.value_extents, objects.Exchanged.Exchange, objects.Rewritten.with_value}
-use Rattle.seg_vector.proofs.Laws.{blocks-three}
 use Rattle.best_fit.proofs.Laws.{spread-behind}
-use Rattle.segment_manager.proofs.directory.ExtentOrder.{Differs, IsFresh, Rising, all_of-inserted, inserted}
-use Rattle.segment_manager.proofs.directory.ExtentOrder.{rising-insert}
+use Rattle.seg_vector.proofs.Laws.{blocks-three}
+use Rattle.segment_manager.proofs.{Common.◌≡◌, Common.◌≢◌, objects.Exchanged.Exchange, objects.Rewritten.with_value}
+use Rattle.segment_manager.proofs.Common.{AllByRecursion, AreDistinct, BackingArray, Extent, List, Object, OwnedText}
+use Rattle.segment_manager.proofs.Common.{SameSpread, Texts, [], ap, append_assoc, arith, handle, middle-first}
+use Rattle.segment_manager.proofs.Common.{option_to_list, subst, sym, text_blocks, value_extents, ℕ, ◌++◌, ◌∙◌, ◌∷◌}
+use Rattle.segment_manager.proofs.directory.LiveSet.{Differs, IsFresh, Rising, all_of-inserted, inserted, rising-insert}
 
 -- ---- extents that rise
 

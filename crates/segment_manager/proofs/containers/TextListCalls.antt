@@ -4,39 +4,37 @@ use Rattle.segment_manager.proofs.Common as common
 use Rattle.seg_types.specs.Commands as asked
 use Rattle.std.proofs.Common.{Fits, w8}
 use Rattle.best_fit.specs.Exchange.{KeepsLiveSet}
-use Rattle.seg_vector.specs.TextsCalls.{ClearsTexts, ErasesText, ErasesTextOk, GetsText, InsertsText, InsertsTextOk}
-use Rattle.seg_vector.specs.TextsCalls.{LacksFit, PopsText, PushesText, ReadsTextsLen, RefusesFirstBlock, SetsText}
-use Rattle.seg_vector.specs.TextsCalls.{SetsTextOk, UnchangedIfFirstRefused, new_array}
-use Rattle.seg_vector.specs.Vector.{capacity_for_one}
+use Rattle.seg_vector.specs.{TextsCalls.UndoesRequests, TextsCalls.new_array, Vector.capacity_for_one}
+use Rattle.seg_vector.specs.TextsCalls.{AssignsTexts, AssignsTextsOk, ClearsTexts, ErasesText, ErasesTextOk, GetsText}
+use Rattle.seg_vector.specs.TextsCalls.{InsertsText, InsertsTextOk, LacksFit, PopsText, PushesText, ReadsTextsLen}
+use Rattle.seg_vector.specs.TextsCalls.{RefusesFirstBlock, SetsText, SetsTextOk, UnchangedIfFirstRefused}
+use Rattle.segment_manager.proofs.containers.{ItemSteps.room-grown, ItemSteps.then_room, TextPlans.then_text}
+use Rattle.segment_manager.proofs.containers.{Safely.stays, ToChange.seen-found}
+use Rattle.segment_manager.proofs.containers.{TextAnswers.fits-bytes, TextLists.part-inserted, TextLists.part-set}
+use Rattle.segment_manager.proofs.containers.MapSteps.{HoldsTexts, Kept, Led, StepsKeeping, TextsMove, all-other}
+use Rattle.segment_manager.proofs.containers.MapSteps.{in-array, kept, led, left-out, moved, one-block, some-texts}
+use Rattle.segment_manager.proofs.containers.MapSteps.{step-leads-on, text-bytes, texts-bytes, texts-lead-on}
+use Rattle.segment_manager.proofs.containers.MapSteps.{texts-restored, texts-stay, texts-steps, texts_in}
 use Rattle.segment_manager.proofs.containers.Safely.{Answered, answered, done-so, of-error, pick-outside, pick-space}
-use Rattle.segment_manager.proofs.containers.TextMoves.{Kept, Led, StepsKeeping, TextsMove, all-other, in-array, kept}
-use Rattle.segment_manager.proofs.containers.TextMoves.{led, left-out, moved, one-block, step-leads-on, texts-lead-on}
-use Rattle.segment_manager.proofs.containers.TextMoves.{texts-restored, texts-stay, texts-steps, texts_in}
 use Rattle.segment_manager.proofs.containers.TextPlans.{all-met, all-unmet, all_plan, assign-none, assign-some}
 use Rattle.segment_manager.proofs.containers.TextPlans.{assign_in, beside_array, clear-texts, erase-text, got-text}
 use Rattle.segment_manager.proofs.containers.TextPlans.{insert-text, insert_in, insert_plan, one-more-met}
 use Rattle.segment_manager.proofs.containers.TextPlans.{one-more-unmet, pop-text, push-text, reserve-texts, set-text}
 use Rattle.segment_manager.proofs.containers.TextPlans.{set_in, shrink-texts, text-placed, text_in, texts_after}
-use Rattle.segment_manager.proofs.containers.{PlacedTexts.text-bytes, PlacedTexts.texts-bytes, TextAnswers.fits-bytes}
-use Rattle.segment_manager.proofs.containers.{Refilled.room-grown, Refilled.then_room, Safely.stays}
-use Rattle.segment_manager.proofs.containers.{TextLists.part-inserted, TextLists.part-set, TextPlans.then_text}
-use Rattle.segment_manager.proofs.containers.{TextsHeld.HoldsTexts, TextsHeld.some-texts, ToChange.seen-found}
-use Rattle.segment_manager.proofs.directory.CommandSteps.{open-reading, open-writing}
-use Rattle.segment_manager.proofs.directory.HeapCalls.{denotes-live}
-use Rattle.segment_manager.specs.Directory.{Object, Texts, live}
+use Rattle.segment_manager.proofs.directory.AnyDirectory.{denotes-live, open-reading, open-writing}
+use Rattle.segment_manager.specs.{Directory.Object, Directory.Texts, Directory.live, containers.Stored.ChangesTexts}
 use Rattle.segment_manager.specs.Keeping.{LacksArray, LacksFirst, UnchangedWhere}
-use Rattle.segment_manager.specs.containers.{Stored.ChangesTexts, ToChange.IsChangeableContainer}
-use common.{Clear, Command, DenotesCurrent, Directory, Done, Err, IfErr, IsSegment, IsTextsContainer, IsTrue, Key, List}
-use common.{LiveSet, NoSpace, None, NotFound, Ok, Option, OutOfRange, OwnedText, Place, Plan, Refusal, Refused}
-use common.{RefusesIndex, Reply, Reserve, Result, SegmentState, Shrink, Some, StepsSafely, StringsKind, TakesStepOfKind}
-use common.{TextElement, UndoesRequests, Value, WindowState, WrongKind, [], answer_of, ap, append-nil, are_bytes, arith}
-use common.{command_of, container_at, current, done_answer, effect, false, false≢true, first_size, get_or}
-use common.{grown_backing, if◌then◌else◌, inl, inr, insert, is_read_only, is_untouched, kind_of, le-ltb, length}
-use common.{length_at_kind, list_all, live_of, lt-ltb, map, option_map, option_to_list, perform, placed_text, refl}
-use common.{refusal_in, remove, requested_text, requested_texts, same_Some, same_kind, shrunk_backing, sizes_of}
-use common.{sizes_of_kind, slice_get, slice_get-get_or, slice_get_past, slice_set, subst, sym, texts_of, true, with}
-use common.{with_array, ℕ}
-use common.{◌+◌, ◌-◌, ◌<◌, ◌∙◌, ◌∷◌, ◌≡◌, ◌≤◌, AnswersWith, AssignsTexts, AssignsTextsOk, BackingArray, Bor, Change}
+use Rattle.segment_manager.specs.containers.{Contents.sizes_of_kind, ToChange.IsChangeableContainer}
+use common.{AnswersWith, BackingArray, Bor, Change, Clear, Command, DenotesCurrent, Directory, Done, Err, IfErr}
+use common.{IsSegment, IsTextsContainer, IsTrue, Key, List, LiveSet, NoSpace, None, NotFound, Ok, Option, OutOfRange}
+use common.{OwnedText, Place, Plan, Refusal, Refused, RefusesIndex, Reply, Reserve, Result, SegmentState, Shrink, Some}
+use common.{StepsSafely, StringsKind, TakesStepOfKind, TextElement, Value, WindowState, WrongKind, [], answer_of, ap}
+use common.{append-nil, are_bytes, arith, command_of, container_at, current, done_answer, effect, false, false≢true}
+use common.{first_size, get_or, grown_backing, if◌then◌else◌, inl, inr, insert, is_read_only, is_untouched, kind_of}
+use common.{le-ltb, length, length_at_kind, list_all, live_of, lt-ltb, map, option_map, option_to_list, perform}
+use common.{placed_text, refl, refusal_in, remove, requested_text, requested_texts, same_Some, same_kind}
+use common.{shrunk_backing, sizes_of, slice_get, slice_get-get_or, slice_get_past, slice_set, subst, sym, texts_of}
+use common.{true, with, with_array, ℕ, ◌+◌, ◌-◌, ◌<◌, ◌∙◌, ◌∷◌, ◌≡◌, ◌≤◌}
 
 -- texts as literals are read back as themselves
 texts-read : (bss : List (List ℕ)) → texts_of (map asked.Quoted bss) ≡ Ok bss

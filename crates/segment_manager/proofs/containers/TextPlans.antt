@@ -2,18 +2,18 @@
 use Rattle.segment_manager.proofs.Common as common
 use Rattle.seg_types.specs.Commands as asked
 use Rattle.segment_manager.specs.Step as step
-use common.{◌≡◌, refl, sym, ap, ◌∙◌, ℕ, ◌-◌, ◌*◌, Bool, true, false, Option, Some, None, Result, Ok, Err, List, [], ◌∷◌}
-use common.{length, ◌==◌, if◌then◌else◌, insert, remove, slice_get, slice_set, nat_lt, option_map, Storage, LiveSet}
-use common.{place, resized, BackingArray, shrunk_backing, no_backing, Refusal, NoSpace, OutOfRange, Key, Literal, Place}
-use common.{requested_texts, new_array, requested_text, placed_text, placed_texts, with_array, with_text, OwnedText}
-use common.{capacity_for_one, grown_backing, Answer, Done, Refused, TextElement, Texts, Object, Directory, Value}
-use common.{found_at, live, New, Plan, Refuse, Reply, Request, perform, with, with_capacity, with_owned_text}
-use common.{with_owned_texts, with_storage, changed, effect, storage_of, texts_of, with_items}
 use Rattle.segment_manager.proofs.containers.ContentPlans.{reserve_with, shrink_with}
-use Rattle.segment_manager.proofs.containers.Refilled.{asked-met, of_places, room-grown, then_by, then_room}
-use Rattle.segment_manager.proofs.containers.PlacedTexts.{in_block, unplaced}
+use Rattle.segment_manager.proofs.containers.ItemSteps.{asked-met, of_places, room-grown, then_by, then_room}
+use Rattle.segment_manager.proofs.containers.MapSteps.{HoldsTexts, in_block, unplaced}
 use Rattle.segment_manager.proofs.containers.TextLists.{pushed-last, removed-last}
-use Rattle.segment_manager.proofs.{directory.CommandSteps.with-found, containers.TextsHeld.HoldsTexts}
+use Rattle.segment_manager.proofs.directory.AnyDirectory.{with-found}
+use common.{Answer, BackingArray, Bool, Directory, Done, Err, Key, List, Literal, LiveSet, New, NoSpace, None, Object}
+use common.{Ok, Option, OutOfRange, OwnedText, Place, Plan, Refusal, Refuse, Refused, Reply, Request, Result, Some}
+use common.{Storage, TextElement, Texts, Value, [], ap, capacity_for_one, changed, effect, false, found_at}
+use common.{grown_backing, if◌then◌else◌, insert, length, live, nat_lt, new_array, no_backing, option_map, perform}
+use common.{place, placed_text, placed_texts, refl, remove, requested_text, requested_texts, resized, shrunk_backing}
+use common.{slice_get, slice_set, storage_of, sym, texts_of, true, with, with_array, with_capacity, with_items}
+use common.{with_owned_text, with_owned_texts, with_storage, with_text, ℕ, ◌*◌, ◌-◌, ◌==◌, ◌∙◌, ◌∷◌, ◌≡◌}
 
 -- ---- the results of allocations
 

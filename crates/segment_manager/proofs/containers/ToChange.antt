@@ -1,9 +1,10 @@
 -- The container to change, for the calls that change it.
 use Rattle.std.specs.Prelude.{IsErrAnd}
-use Rattle.segment_manager.proofs.Common.{Ok, Place, Refusal, Refused, Result, SegmentState, TakesStepOfKind, answer_of}
+use Rattle.segment_manager.proofs.{containers.ItemSteps.finds-no_container, directory.AnyDirectory.open-writing}
+use Rattle.segment_manager.proofs.Common.{Answer, AnswersWith, Command, Err, IsNotToChange, Key, Kind, MatchResult, Ok}
+use Rattle.segment_manager.proofs.Common.{Place, Refusal, Refused, Result, SegmentState, TakesStepOfKind, answer_of}
 use Rattle.segment_manager.proofs.Common.{container_at, exit-is, false, is_changing, is_read_only, subst, sym, true}
-use Rattle.segment_manager.proofs.Common.{◌≡◌, Answer, AnswersWith, Command, Err, IsNotToChange, Key, Kind, MatchResult}
-use Rattle.segment_manager.proofs.{containers.Refilled.finds-no_container, directory.CommandSteps.open-writing}
+use Rattle.segment_manager.proofs.Common.{◌≡◌}
 use Rattle.segment_manager.specs.containers.ToChange.{IsChangeableContainer}
 
 -- a segment that is open for writing

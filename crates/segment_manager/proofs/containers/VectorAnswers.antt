@@ -6,38 +6,37 @@ use Rattle.std.specs.Option.{ok_or}
 use Rattle.best_fit.specs.Heap.{KeepsGaps}
 use Rattle.seg_vector.proofs.Laws.{same-extents}
 use Rattle.seg_vector.specs.Vector.{capacity_for_more}
-use Rattle.seg_vector.specs.VectorCalls.{CountsCapacity, ErasesFrom, ExtendsBy, Gets, InsertsInto, IsVector, Pops}
-use Rattle.seg_vector.specs.VectorCalls.{Pushes, ReadsVectorLen, Sets, SetsAll}
-use Rattle.segment_manager.proofs.bound.{Changes.Changed, Changes.leaves-bound, Places.container-bound}
+use Rattle.seg_vector.specs.VectorCalls.{CountsCapacity, ErasesFrom, ExtendsBy, Gets, InsertsInto, IsSomeVector}
+use Rattle.seg_vector.specs.VectorCalls.{IsVector, Pops, Pushes, ReadsVectorLen, ReplacesVector, Sets, SetsAll}
+use Rattle.segment_manager.proofs.{containers.ContentPlans.set-plan, directory.AnyDirectory.open-writing}
+use Rattle.segment_manager.proofs.bound.ByKey.{Changed, container-bound, leaves-bound}
 use Rattle.segment_manager.proofs.containers.ContentPlans.{assign-plan, erase-plan, insert-plan, pop-plan, push-plan}
-use Rattle.segment_manager.proofs.containers.Extending.{VectorExtended, extended-found, extended-room}
-use Rattle.segment_manager.proofs.containers.ItemSteps.{HoldsItems, ListedGrown, ListedNow, Listing, changes-safely}
+use Rattle.segment_manager.proofs.containers.ItemSteps.{HoldsItems, ListedGrown, ListedNow, Listing, VectorExtended}
+use Rattle.segment_manager.proofs.containers.ItemSteps.{changes-safely, contents-fit, extended-found, extended-room}
 use Rattle.segment_manager.proofs.containers.ItemSteps.{found-items, grows-safely, items-denote, items-full}
 use Rattle.segment_manager.proofs.containers.ItemSteps.{items-grown, items-now, items-refused, items-stay, items-steps}
-use Rattle.segment_manager.proofs.containers.ItemSteps.{so-too, some-items, vector-only}
+use Rattle.segment_manager.proofs.containers.ItemSteps.{so-too, some-items, then_room, vector-only}
 use Rattle.segment_manager.proofs.containers.RangeCalls.{RangeWritten, range-done, range-elements, range-moves}
 use Rattle.segment_manager.proofs.containers.RangeCalls.{range-short, series-elements, whole-replaced}
-use Rattle.segment_manager.proofs.containers.Safely.{answered, done-so, kept-gaps, performed, pick-outside, pick-space}
-use Rattle.segment_manager.proofs.containers.{Contained.contents-fit, Safely.refuses-so, Safely.same-live}
-use Rattle.segment_manager.proofs.containers.{ContentPlans.set-plan, Refilled.then_room, ToChange.seen-found}
-use Rattle.segment_manager.proofs.objects.WholeNumbers.{IsOfKind, whole-insert, whole-reached, whole-remove, whole-set}
-use Rattle.segment_manager.proofs.objects.WholeNumbers.{whole-spelled, whole-values}
-use Rattle.segment_manager.proofs.objects.{ElementLists.numbers-listed, Stored.literal-read, Stored.literals-read}
-use Rattle.segment_manager.proofs.{Common.live_of, directory.CommandSteps.open-writing}
+use Rattle.segment_manager.proofs.containers.Safely.{answered, done-so, kept-gaps, of-error, performed, pick-outside}
+use Rattle.segment_manager.proofs.containers.Safely.{pick-space, refuses-so, same-live}
+use Rattle.segment_manager.proofs.containers.ToChange.{seen-found}
+use Rattle.segment_manager.proofs.objects.Stored.{IsOfKind, literal-read, literals-read, numbers-listed, whole-insert}
+use Rattle.segment_manager.proofs.objects.Stored.{whole-reached, whole-remove, whole-set, whole-spelled, whole-values}
 use Rattle.segment_manager.specs.Keeping.{KeepsUnused}
 use Rattle.segment_manager.specs.containers.Ranges.{extended, numbers_if, replaced, written}
 use Rattle.segment_manager.specs.objects.BoundObjects.{IsBound, container_of, key_of}
 use Rattle.segment_manager.specs.objects.ElementLists.{element_of, numbers_at, whole_of}
-use common.{Bool, Command, Denotes, DenotesCurrent, Directory, Done, Element, Elements, Err, GrowsVectorOk, IfErr}
-use common.{IsSegment, IsSomeVector, IsTrue, Key, LacksSpace, List, Located, MatchResult, NoSpace, None, NotFound}
-use common.{Object, Ok, Option, OutOfRange, Place, Plan, Refusal, Refused, RefusesIndex, ReplacesVector, Reply, Result}
-use common.{ScalarKind, SegmentState, Some, TakesStepOfKind, Value, Vector, WindowState, [], answer_of, ap, arith}
-use common.{capacity_for_one, changed, container_at, current, done_answer, effect, false, flat_map, get_or}
-use common.{grown_backing, inl, inr, insert, is_elementwise, is_good_value, is_read_only, kind_of, le-ltb, length}
-use common.{length-map, list_all, literal_of, live, lt-ltb, map, map-append, option_map, perform, pos, refl, remove}
-use common.{same_kind, size_of, sizes_at, sizes_of, slice_get, slice_get-get_or, slice_get-map, slice_get_past}
-use common.{slice_set, subst, sym, take, take-map, true, value_of_literal, with_capacity, ℕ, ℤ}
-use common.{◌++◌, ◌+◌, ◌-◌, ◌<◌, ◌∙◌, ◌∷◌, ◌≡◌, ◌≤◌, ◌⊎◌, Answer, AnswersSafely, AnswersWith, Assigns, BackingArray}
+use common.{Answer, AnswersSafely, AnswersWith, Assigns, BackingArray, Bool, Command, Denotes, DenotesCurrent}
+use common.{Directory, Done, Element, Elements, Err, GrowsVectorOk, IfErr, IsSegment, IsTrue, Key, LacksSpace, List}
+use common.{Located, MatchResult, NoSpace, None, NotFound, Object, Ok, Option, OutOfRange, Place, Plan, Refusal}
+use common.{Refused, RefusesIndex, Reply, Result, ScalarKind, SegmentState, Some, TakesStepOfKind, Value, Vector}
+use common.{WindowState, [], answer_of, ap, arith, capacity_for_one, changed, container_at, current, done_answer}
+use common.{effect, false, flat_map, get_or, grown_backing, inl, inr, insert, is_elementwise, is_good_value}
+use common.{is_read_only, kind_of, le-ltb, length, length-map, list_all, literal_of, live, live_of, lt-ltb, map}
+use common.{map-append, option_map, perform, pos, refl, remove, same_kind, size_of, sizes_at, sizes_of, slice_get}
+use common.{slice_get-get_or, slice_get-map, slice_get_past, slice_set, subst, sym, take, take-map, true}
+use common.{value_of_literal, with_capacity, ℕ, ℤ, ◌++◌, ◌+◌, ◌-◌, ◌<◌, ◌∙◌, ◌∷◌, ◌≡◌, ◌≤◌, ◌⊎◌}
 
 module _ {T : Type 0} {k : ScalarKind} {w : T → ℤ} {size : ℕ} {test : T → Bool} {sp : T → List ℕ}
     (law : IsOfKind k w size test sp) where
@@ -116,22 +115,10 @@ module _ {T : Type 0} {k : ScalarKind} {w : T → ℤ} {size : ℕ} {test : T �
     grown-gaps g e = g.now.gaps (same-extents p.handle some.table.extent g.table.extent some.stands.heap
         some.stands.own g.now.change e)
 
-    -- setting an element leaves the gaps
-    set-gaps : {new : WindowState} (i : ℕ) (x : T) (r : Result (Unit {0}) Refusal)
-        → Sets size test sp s.cut new p i x r → KeepsGaps t.cut new
-    set-gaps i x r a = kept-gaps view r (a some.items some.table (vector b.0 some)) (λ u m. m.1.gaps refl)
-        (λ e m. m.same)
-
     -- writing over elements leaves the gaps
     pub overwrite-gaps : {new : WindowState} (i : ℕ) (ys : List T) (r : Result (Unit {0}) Refusal)
         → SetsAll size test sp s.cut new p i ys r → KeepsGaps t.cut new
     overwrite-gaps i ys r a = kept-gaps view r (a some.items some.table (vector b.0 some)) (λ u m. m.1.gaps refl)
-        (λ e m. m.same)
-
-    -- erasing an element leaves the gaps
-    erase-gaps : {new : WindowState} (i : ℕ) (r : Result (Unit {0}) Refusal)
-        → ErasesFrom size test sp s.cut new p i r → KeepsGaps t.cut new
-    erase-gaps i r a = kept-gaps view r (a some.items some.table (vector b.0 some)) (λ u m. m.1.gaps refl)
         (λ e m. m.same)
 
     -- popping an element leaves the gaps
@@ -220,38 +207,10 @@ module _ {T : Type 0} {k : ScalarKind} {w : T → ℤ} {size : ℕ} {test : T �
       seen c e f g done =
           leaves-bound view bound may b new c e f g (answered s t view b new key (Vector k) (c key) _ done)
 
-      -- the reasons of refusals
-      set-error : (i : ℕ) (x : T) (r : Result (Unit {0}) Refusal) → Sets size test sp s.cut new p i x r
-          → IfErr r (λ why. why ≡ OutOfRange)
-      set-error i x (Ok u) a = tt
-      set-error i x (Err e) a = (a some.items some.table (vector b.0 some)).refusal
-
-      erase-error : (i : ℕ) (r : Result (Unit {0}) Refusal) → ErasesFrom size test sp s.cut new p i r
-          → IfErr r (λ why. why ≡ OutOfRange)
-      erase-error i (Ok u) a = tt
-      erase-error i (Err e) a = (a some.items some.table (vector b.0 some)).refusal
-
-      push-error : (x : T) (r : Result (Unit {0}) Refusal) → Pushes size test sp s.cut new p x r
-          → IfErr r (λ why. why ≡ NoSpace)
-      push-error x (Ok u) a = tt
-      push-error x (Err e) a = (a some.items some.table (vector b.0 some)).refusal
-
-      insert-error : (i : ℕ) (x : T) (r : Result (Unit {0}) Refusal) → InsertsInto size test sp s.cut new p i x r
-          → IfErr r (λ why. (why ≡ OutOfRange) ⊎ (why ≡ NoSpace))
-      insert-error i x (Ok u) a = tt
-      insert-error i x (Err e) a = elim (a some.items some.table (vector b.0 some))
-          [ inl o ↦ inl o.refusal | inr o ↦ inr o.1.refusal ]
-
       -- appended values lack space
       pub extend-error : (ys : List T) (r : Result (Unit {0}) Refusal) → ExtendsBy size test sp s.cut new p ys r
           → IfErr r (λ why. why ≡ NoSpace)
-      extend-error ys (Ok u) a = tt
-      extend-error ys (Err e) a = (a some.items some.table (vector b.0 some)).refusal
-
-      assign-error : (ys : List T) (r : Result (Unit {0}) Refusal) → Assigns size test sp s.cut new p ys r
-          → IfErr r (λ why. why ≡ NoSpace)
-      assign-error ys (Ok u) a = tt
-      assign-error ys (Err e) a = (a some.items some.table (vector b.0 some)).refusal
+      extend-error ys r a = of-error _ r (a some.items some.table (vector b.0 some)) (λ e m. m.refusal)
 
       as-literal : (x : T) → test x ≡ true → value_of_literal k (literal_of k (w x)) ≡ Ok (w x)
       as-literal x v = literal-read k (w x) (sym (law.values x) ∙ v)
@@ -259,8 +218,10 @@ module _ {T : Type 0} {k : ScalarKind} {w : T → ℤ} {size : ℕ} {test : T �
       pub vector-set : (i : ℕ) (x : T) (r : Result (Unit {0}) Refusal) → test x ≡ true → Sets size test sp s.cut new p i
           x r → Changed (Vector k) o s t new (λ key. asked.Set key i (literal_of k (w x))) done_answer
           (λ why. why ≡ OutOfRange) (KeepsGaps t.cut new) r
-      vector-set i x r v a = seen (λ key. asked.Set key i (literal_of k (w x))) refl (set-error i x r a)
-          (set-gaps i x r a) (changes-safely typed s key p b found new writing (asked.Set key i (literal_of k
+      vector-set i x r v a = seen (λ key. asked.Set key i (literal_of k (w x))) refl (of-error _ r (a some.items
+          some.table (vector b.0 some)) (λ e m. m.refusal))
+          (kept-gaps view r (a some.items some.table (vector b.0 some)) (λ u m. m.1.gaps refl) (λ e m. m.same))
+          (changes-safely typed s key p b found new writing (asked.Set key i (literal_of k
           (w x))) i (λ xs. slice_set xs i x) r (λ d h in_range. set-plan d key h.object k (map w h.items) h.table h.is
           h.value i (literal_of k (w x)) (w x) (Some (get_or (map w h.items) i (pos 0))) (as-literal x v)
           (within h.items i in_range) ∙ ap (λ zs. Reply Done (changed d h.object (Elements k zs h.table)))
@@ -271,7 +232,9 @@ module _ {T : Type 0} {k : ScalarKind} {w : T → ℤ} {size : ℕ} {test : T �
       pub vector-erased : (i : ℕ) (r : Result (Unit {0}) Refusal) → ErasesFrom size test sp s.cut new p i r
           → Changed (Vector k) o s t new (λ key. asked.Erase key i) done_answer (λ why. why ≡ OutOfRange)
           (KeepsGaps t.cut new) r
-      vector-erased i r a = seen (λ key. asked.Erase key i) refl (erase-error i r a) (erase-gaps i r a)
+      vector-erased i r a = seen (λ key. asked.Erase key i) refl (of-error _ r (a some.items some.table (vector b.0
+          some)) (λ e m. m.refusal)) (kept-gaps view r (a some.items
+          some.table (vector b.0 some)) (λ u m. m.1.gaps refl) (λ e m. m.same))
           (changes-safely typed s key p b found new writing (asked.Erase key i) i (λ xs. remove xs i) r
           (λ d h in_range. erase-plan d key h.object k (map w h.items) h.table h.is h.value i
           (Some (get_or (map w h.items) i (pos 0))) (within h.items i in_range)
@@ -292,7 +255,8 @@ module _ {T : Type 0} {k : ScalarKind} {w : T → ℤ} {size : ℕ} {test : T �
       pub vector-pushed : (x : T) (r : Result (Unit {0}) Refusal) → test x ≡ true → Pushes size test sp s.cut new p x r
           → Changed (Vector k) o s t new (λ key. asked.Push key (literal_of k (w x))) done_answer
           (λ why. why ≡ NoSpace) (KeepsUnused t (record s { cut = new })) r
-      vector-pushed x r v a = seen (λ key. asked.Push key (literal_of k (w x))) refl (push-error x r a)
+      vector-pushed x r v a = seen (λ key. asked.Push key (literal_of k (w x))) refl (of-error _ r (a some.items
+          some.table (vector b.0 some)) (λ e m. m.refusal))
           (push-gaps x r a) (grows-safely typed s key p b found new writing (asked.Push key (literal_of k (w x)))
           (λ xs t. capacity_for_one (length xs) t.capacity) (λ xs. xs ++ x ∷ []) r (λ d h. push-plan d key h.object k
           (map w h.items) h.table h.is h.value (literal_of k (w x)) (Ok (w x)) (as-literal x v)
@@ -317,7 +281,12 @@ module _ {T : Type 0} {k : ScalarKind} {w : T → ℤ} {size : ℕ} {test : T �
           items-grown s.cut new den h (insert h.items i x) (capacity_for_one (length h.items) h.table.capacity)
           (asked.Insert key i (literal_of k (w x))) Done (insert-so i x v d h r.0) (grown-so r.1))))
       vector-inserted i x (Err e) v a = seen (λ key. asked.Insert key i (literal_of k (w x))) refl
-          (insert-error i x (Err e) a) (insert-gaps i x (Err e) a) (elim (a some.items some.table (vector b.0 some)) [
+          (elim (a some.items some.table (vector b.0 some)) as (λ _. (e ≡ OutOfRange) ⊎ (e ≡ NoSpace)) [
+            | inl o ↦ inl
+                o.refusal
+            | inr o ↦ inr o.1.refusal
+          ]) (insert-gaps i x (Err e) a) (elim (a some.items some.table (vector b.0
+          some)) [
             | inl o ↦ items-refused typed s key p b found new writing _ e OutOfRange o.refusal o.same (λ d den h.
                 let out : RefusesIndex s.cut new (length h.items + 1) i e =
                 pick-outside e (λ w. w.1.refusal) o.refusal (a h.items h.table (vector d h)) in
@@ -377,7 +346,8 @@ module _ {T : Type 0} {k : ScalarKind} {w : T → ℤ} {size : ℕ} {test : T �
           → Changed (Vector k) o s t new (λ key. asked.Assign key (map (literal_of k) (map w ys))) done_answer
           (λ why. why ≡ NoSpace) (KeepsUnused t (record s { cut = new })) r
       vector-assigned ys r v a = seen (λ key. asked.Assign key (map (literal_of k) (map w ys))) refl
-          (assign-error ys r a) (assign-gaps ys r a) (grows-safely typed s key p b found new writing (asked.Assign key
+          (of-error _ r (a some.items some.table (vector b.0 some)) (λ e m. m.refusal)) (assign-gaps ys r a)
+          (grows-safely typed s key p b found new writing (asked.Assign key
           (map (literal_of k) (map w ys))) (λ xs t. length ys) (λ xs. ys) r (λ d h. assign-plan d key h.object k
           (map w h.items) h.table h.is h.value (map (literal_of k) (map w ys)) (map w ys) (literals-read k (map w ys)
           (sym (whole-values k w size test sp law ys) ∙ v)) ∙ (λ i. with_capacity (sym law.long i) (length-map ys w i)
@@ -418,18 +388,14 @@ module _ {T : Type 0} {k : ScalarKind} {w : T → ℤ} {size : ℕ} {test : T �
         abbrev behind_last : BackingArray → Plan
         behind_last u = Reply Done (changed d h.object (Elements k (map w h.items ++ map w ys) u))
 
-        asked-places : {r : Option BackingArray} → grown_backing (live_of s.cut.bytes) size
-            (capacity_for_more (length h.items) (length ys) h.table.capacity) h.table ≡ r
-            → grown_backing (live_of s.cut.bytes) (size_of k) wanted_places h.table ≡ r
-        asked-places e = (λ i. grown_backing (live_of s.cut.bytes) (sym law.long i)
-            (capacity_for_more (length-map h.items w i) (length-map ys w i) h.table.capacity) h.table) ∙ e
-
         extends-to : (l : DenotesCurrent s.cut.bytes d) (r : Option BackingArray)
             → grown_backing (live_of s.cut.bytes) size
             (capacity_for_more (length h.items) (length ys) h.table.capacity) h.table ≡ r
             → extended s.mode d key k (map w ys) ≡ then_room d (live d) h.table behind_last r
         extends-to l r e = extended-found s.mode d key k (map w ys) writing h.object h.is (map w h.items) h.table
-            h.value ∙ extended-room d l.denotes k wanted_places h.table behind_last r (asked-places e)
+            h.value ∙ extended-room d l.denotes k wanted_places h.table behind_last r ((λ i. grown_backing (live_of
+            s.cut.bytes) (sym law.long i) (capacity_for_more (length-map h.items w i) (length-map ys w i)
+            h.table.capacity) h.table) ∙ e)
 
       pub vector-extended : (ys : List T) (r : Result (Unit {0}) Refusal) → ExtendsBy size test sp s.cut new p ys r
           → VectorExtended s t new key k (map w ys) r

@@ -90,11 +90,6 @@ faces-ordered : (c : Class) (lt : Object → Object → Bool) → IsByFace lt �
 faces-ordered c lt e os =
     faces-fold lt e [] (filter (is_class c) os) ∙ ap (fold (λ os o. insert_by lt o os) []) (faces-filter c os)
 
--- lists of objects with the same faces have indexes with the same faces
-ordered-alike : (c : Class) (lt : Object → Object → Bool) → IsByFace lt → (os ps : List Object) → faces os ≡ faces ps
-    → faces (ordered c lt os) ≡ faces (ordered c lt ps)
-ordered-alike c lt e os ps f = faces-ordered c lt e os ∙ ap (ordered c lt) f ∙ sym (faces-ordered c lt e ps)
-
 -- ---- properties that depend only on class, name, kind and block
 
 handles-faces : (os : List Object) → handles (faces os) ≡ handles os
@@ -152,7 +147,8 @@ pub ordered-changed : (c : Class) (lt : Object → Object → Bool) → IsByFace
     → IsFound (handle o'.extent) d.objects o → IsLike o o'
     → SameIndex lt (ordered c lt d.objects) (ordered c lt (with_changed d o').objects)
 ordered-changed c lt e d o o' f h = index-alike e
-    (ordered-alike c lt e (replace_object o' d.objects) d.objects (faces-replace d.objects o o' f (face-like h)))
+    (faces-ordered c lt e (replace_object o' d.objects) ∙ ap (ordered c lt) (faces-replace d.objects o o' f (face-like
+    h)) ∙ sym (faces-ordered c lt e d.objects))
 
 -- ---- an object that is not of the class
 

@@ -1,13 +1,92 @@
--- What the live set is after a change of the directory.
+-- Extents inserted by offset: a sorted list of them, and removing an inserted extent.
 use Rattle.segment_manager.proofs.Common as common
-use common.{◌≡◌, refl, sym, ap, subst, ◌∙◌, ℕ, ◌≢◌, Bool, true, false, ◌==◌, Some, List, [], ◌∷◌, ◌++◌, append_assoc}
-use common.{if◌then◌else◌, cond, IsTrue, nat_lt, find, flat_map, AllByRecursion, eqb-true, eq-eqb, ne_eqb, Extent}
-use common.{LiveSet, handle, is_proper, ByHandle, Object, Directory, sorted, live, extents_of, table_extents, has_key}
-use common.{put_object, remove_object, replace_object, with_object, with_changed, without_object}
-use Rattle.segment_manager.proofs.directory.ExtentOrder.{Apart, Rising, inserted, inserted-comm, sorted-append}
-use Rattle.segment_manager.proofs.directory.ExtentOrder.{all_of-sorted, live-rises, rising-inserted, apart-inserted}
-use Rattle.segment_manager.proofs.directory.ExtentOrder.{without_all, without-inserted}
-use Rattle.raw_region.proofs.Facts.{AllByRecursion-front, AllByRecursion-behind}
+use Rattle.raw_region.proofs.Facts.{AllByRecursion-behind, AllByRecursion-front}
+pub use Rattle.best_fit.proofs.Laws.{IsFresh, all_of-insert, all_of-inserted, apart-inserted, insert-inserted}
+pub use Rattle.best_fit.proofs.Laws.{inserted-comm, live-rises, rising-insert, rising-inserted, rising-weak}
+pub use Rattle.best_fit.proofs.Laws.{without-inserted}
+unfoldable pub use Rattle.best_fit.proofs.Laws.{Differs, Rising}
+use Rattle.best_fit.proofs.Laws.{AllByRecursion-insert_from, others-here, others-past}
+pub use Rattle.best_fit.specs.Exchange.{inserted, without_all}
+use Rattle.best_fit.specs.Fit.{insert}
+use common.{AllByRecursion, Bool, ByHandle, Directory, Extent, IsTrue, List, LiveSet, Object, Some, [], added, ap}
+use common.{append_assoc, arith, cond, cond-false, cond-true, eq-eqb, eqb-true, extents_of, false, find, flat_map}
+use common.{handle, has_key, if◌then◌else◌, is_proper, live, nat_lt, ne_eqb, others, put_object, refl, remove_object}
+use common.{replace_object, resized, sorted, subst, sym, table_extents, true, with_changed, with_object, without_object}
+use common.{ℕ, ◌++◌, ◌+◌, ◌<◌, ◌==◌, ◌∙◌, ◌∷◌, ◌≡◌, ◌≢◌}
+
+-- no two extents begin at one offset
+abbrev pub Apart : List Extent → List Extent → Type 0
+Apart xs ys = AllByRecursion (λ x. Differs x ys) xs
+
+-- sorting two lists inserts the first into the sorted second
+pub sorted-append : (xs ys : List Extent) → sorted (xs ++ ys) ≡ inserted xs (sorted ys)
+sorted-append [] ys = refl
+sorted-append (x ∷ xs) ys = ap (insert x) (sorted-append xs ys)
+
+-- a property of each element of a sorted list
+pub all_of-sorted : (P : Extent → Type 0) (xs : List Extent) → AllByRecursion P (sorted xs) → AllByRecursion P xs
+all_of-sorted P [] h = tt
+all_of-sorted P (x ∷ xs) h =
+    let both = all_of-insert P x (sorted xs) h in
+    (both.0, all_of-sorted P xs both.1)
+
+-- a property of each element holds for each element of the sorted list
+pub all-sorted : (P : Extent → Type 0) (xs : List Extent) → AllByRecursion P xs → AllByRecursion P (sorted xs)
+all-sorted P [] h = tt
+all-sorted P (x ∷ xs) h = AllByRecursion-insert_from P x (sorted xs) h.0 (all-sorted P xs h.1)
+
+-- ---- found by handle
+
+-- an extent is found by its handle in a list
+abbrev pub IsFoundIn : List Extent → Extent → Type 0
+IsFoundIn zs x = find (λ (y : Extent). handle y == handle x) zs ≡ Some x
+
+found-behind : (z : Extent) (zs : List Extent) (n : ℕ) (xs : List Extent) → Rising n xs → z.offset < n
+    → AllByRecursion (IsFoundIn zs) xs → AllByRecursion (IsFoundIn (z ∷ zs)) xs
+found-behind z zs n [] r l a = tt
+found-behind z zs n (x ∷ xs) r l a = (
+  cond-false (handle z == handle x) (Some z) (find (λ (y : Extent). handle y == handle x) zs)
+      (ne_eqb (handle z) (handle x) (λ e. omega (arith, r.0, e, l))) ∙ a.0,
+  found-behind z zs (x.offset + 1) xs r.1 (omega (arith, r.0, l)) a.1,
+)
+
+-- each extent of a rising list is found in it
+pub found-each : (n : ℕ) (zs : List Extent) → Rising n zs → AllByRecursion (IsFoundIn zs) zs
+found-each n [] r = tt
+found-each n (z ∷ zs) r = (
+  cond-true (handle z == handle z) (Some z) (find (λ (y : Extent). handle y == handle z) zs)
+      (eq-eqb (handle z) (handle z) refl),
+  found-behind z zs (z.offset + 1) zs r.1 (omega arith) (found-each (z.offset + 1) zs r.1),
+)
+
+-- ---- taking out
+
+others-if : (b : Bool) (x z : Extent) {zs : List Extent} (ws : List Extent) → x.offset ≢ z.offset
+    → others (handle x) ws ≡ zs → others (handle x) (if b then x ∷ z ∷ zs else z ∷ ws) ≡ z ∷ zs
+others-if true x z {zs} ws n e = others-here (handle x) x (z ∷ zs) refl
+others-if false x z ws n e = others-past (handle x) z ws (λ f. n (omega (arith, f))) ∙ ap (λ vs. z ∷ vs) e
+
+-- the inserted extent is the one that is removed
+pub others-insert : (x : Extent) (zs : List Extent) → Differs x zs → others (handle x) (insert x zs) ≡ zs
+others-insert x [] n = others-here (handle x) x [] refl
+others-insert x (z ∷ zs) n = others-if (nat_lt x.offset z.offset) x z (insert x zs) n.0 (others-insert x zs n.1)
+
+-- an extent that begins nowhere else is added as it is resized to
+pub others-none : (h : ℕ) (zs : List Extent) → AllByRecursion (λ (z : Extent). handle z ≢ h) zs → others h zs ≡ zs
+others-none h [] n = refl
+others-none h (z ∷ zs) n = others-past h z zs n.0 ∙ ap (λ vs. z ∷ vs) (others-none h zs n.1)
+
+differs-handles : (x : Extent) (zs : List Extent) → Differs x zs
+    → AllByRecursion (λ (z : Extent). handle z ≢ handle x) zs
+differs-handles x [] n = tt
+differs-handles x (z ∷ zs) n = ((λ e. n.0 (omega (arith, e))), differs-handles x zs n.1)
+
+-- a new block is one more
+pub resized-fresh : (l : LiveSet) (x : Extent) → Differs x l.extents → resized l x ≡ added l x
+resized-fresh l x n = ap (λ xs. let l' : LiveSet = record l { extents = insert x xs } in
+    l') (others-none (handle x) l.extents (differs-handles x l.extents n))
+
+-- What the live set is after a change of the directory.
 
 -- the extents of these objects, and of the tables t, by offset
 abbrev pub spread : List Object → List Extent → List Extent

@@ -1,10 +1,10 @@
 -- A command that only reads keeps the directory, and a step also takes place without its answer.
 use Rattle.segment_manager.proofs.Common as common
-use Rattle.segment_manager.proofs.directory.Refusals.{Leaves, by_change, by_other, by_refusal, by_request, by_same}
-use Rattle.segment_manager.proofs.directory.Refusals.{plan-leaves, plan_of_kind-leaves, step-refused}
-use common.{Option, Plan, Refusal, Refused, SegmentState, Some, StepsWithoutAnswer, false, false≢true, is_changing}
-use common.{live, met, perform, plan, refl, refusal_of, resized, step, step_of_kind, subst, sym}
-use common.{◌≡◌, Answer, Bool, Command, DenotesCurrent, Directory, Extent, Key, Kind, LiveSet, Mode, NoSpace, None}
+use Rattle.segment_manager.proofs.directory.AnyDirectory.{Leaves, by_answer, by_change, by_other, by_refusal}
+use Rattle.segment_manager.proofs.directory.AnyDirectory.{by_request, plan-leaves, plan_of_kind-leaves, step-refused}
+use common.{Answer, Bool, Command, DenotesCurrent, Directory, Extent, Key, Kind, LiveSet, Mode, NoSpace, None, Option}
+use common.{Plan, Refusal, Refused, SegmentState, Some, StepsWithoutAnswer, false, false≢true, is_changing, live, met}
+use common.{perform, plan, refl, refusal_of, resized, step, step_of_kind, subst, sym, ◌≡◌}
 
 asked-reads : {d : Directory} (o : Option Extent) (after : Extent → Answer × Directory) → ((x : Extent)
     → (after x).1 ≡ d) → (elim o as (λ _. Answer × Directory) [ None ↦ (Refused NoSpace, d) | Some x ↦ after x ]).1 ≡ d
@@ -14,7 +14,7 @@ asked-reads (Some x) after k = k x
 perform-reads : {d : Directory} {changing : Bool} (other : Bool) → changing ≡ false → (l : LiveSet) (p : Plan)
     → Leaves d changing other p → (perform d l p).1 ≡ d
 perform-reads other e l p by_refusal = refl
-perform-reads other e l p by_same = refl
+perform-reads other e l p by_answer = refl
 perform-reads other e l p (by_change o a k) = absurd (false≢true (sym e))
 perform-reads other e l p (by_other k) = absurd (false≢true (sym e))
 perform-reads {d} other e l p (by_request {need = need} {next = next} k) = asked-reads (met l need)

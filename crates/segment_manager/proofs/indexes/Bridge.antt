@@ -1,27 +1,336 @@
--- The relation between a directory and the two indexes of its heap: the meaning of a look-up, and the entry of an
--- object that is constructed or destroyed. The contents of the bytes are in HeldIndexes.
+-- Objects in order and their places: the object at a place, the object with a key, and inserting or removing an object.
 use Rattle.segment_manager.proofs.Common as common
 use Rattle.seg_types.specs.Names as names
-use Rattle.raw_region.proofs.Facts.{first}
-use Rattle.seg_index.specs.{Lookups.order, Sorted.index_of, declared.keys.Entry.Entry}
-use Rattle.segment_manager.proofs.directory.{IndexedParts.ordered-without, LiveSet.IsIn, OneObject.handles-length}
-use Rattle.segment_manager.proofs.indexes.EntryPlaces.{IsPlaceOf, all-at, all_of-ordered, ascends-at, at-all, at-handle}
-use Rattle.segment_manager.proofs.indexes.EntryPlaces.{insert-at, none-found, of-class, own-found, remove-at, stands-at}
-use Rattle.segment_manager.proofs.indexes.HeldIndexes.{all-in, directory-index, entries-in, objects-ascend}
-use Rattle.segment_manager.proofs.indexes.Indexes.{by_kind-strict, by_name-strict, index-parts, named-more, one-removed}
-use Rattle.segment_manager.proofs.indexes.KeyOrder.{Says, code-of, kinds-apart, kinds-class, kinds-say, name-of}
-use Rattle.segment_manager.proofs.indexes.KeyOrder.{names-apart, names-class, names-say, same-itself}
-use Rattle.segment_manager.proofs.indexes.{HeldIndexes.order-strict, Indexes.rises-above, Indexes.unique-more}
-use Rattle.segment_manager.proofs.objects.RankedPairs.{found-filter, ordered-pairwise}
-use Rattle.segment_manager.proofs.objects.Ranks.{IsRanked, all-ordered}
-use Rattle.segment_manager.proofs.{blocks.InUse.all-both, objects.ObjectLists.all-found, objects.ObjectLists.rises-rest}
-use common.{FindsPosition, Found, Index, IsDirectory, IsEntry, IsTrue, Kind, List, Memory, Name, Named, NamedClass}
-use common.{None, Object, Seeks, Some, Unique, UniqueClass, WindowState, [], and_from, ap, arith, by_kind, by_name}
-use common.{bytes_of, cases_lt, class_of_index, code_of, cond-false, cond-true, current, entries_of, eq-eqb, false}
-use common.{false≢true, filter, find, handle, handles, has_key, inl, inr, insert, insert_by, is_class, kind_of, length}
-use common.{nat_cmp, ne_eqb, object_at, objects_of, order_of, refl, remove, remove_object, rises_from, same_Some}
-use common.{same_bytes, same_kind, slice_cmp, slice_get, subst, sym, table_of, true, with_object, without_object, ℕ}
-use common.{◌&&◌, ◌+◌, ◌<◌, ◌==◌, ◌∙◌, ◌∷◌, ◌≡◌, ◌≢◌, ◌≤◌, ◌⊎◌, Absent, AllByRecursion, Code, Denotes, Directory}
+use Rattle.std.specs.List.Sorted.{IsStrictlySortedBy}
+use Rattle.raw_region.proofs.Facts.{AllByRecursion-filter, first, second}
+use Rattle.seg_index.specs.Lookups.{order}
+use Rattle.seg_index.specs.Sorted.{AreSortedHandles, HasSortKey, HasSortedIndex, index_of, sort_key_end, sort_order}
+use Rattle.segment_manager.proofs.blocks.InUse.{IsInUse, all-both, all-each, named-in_use, objects-in_use}
+use Rattle.segment_manager.proofs.blocks.InUse.{unique-in_use}
+use Rattle.segment_manager.proofs.directory.{Frame.handles-length, Frame.object-roomy, IndexedParts.ordered-without}
+use Rattle.segment_manager.proofs.directory.AnyDirectory.{denotes-heap, denotes-live}
+use Rattle.segment_manager.proofs.directory.LiveSet.{IsIn, remove-behind, remove-here}
+use Rattle.segment_manager.proofs.indexes.Indexes.{Says, by_kind-strict, by_name-strict, code-of, index-parts}
+use Rattle.segment_manager.proofs.indexes.Indexes.{kind-less, kinds-apart, kinds-class, kinds-say, name-less, name-of}
+use Rattle.segment_manager.proofs.indexes.Indexes.{named-more, names-apart, names-class, names-say, one-removed}
+use Rattle.segment_manager.proofs.indexes.Indexes.{rises-above, same-itself, unique-more}
+use Rattle.segment_manager.proofs.objects.Heads.{entries_say_objects, entry-name_len, good-name, good_name-short}
+use Rattle.segment_manager.proofs.objects.RankedPairs.{IsRanked, IsStrict, Pairwise, all-found, all-ordered}
+use Rattle.segment_manager.proofs.objects.RankedPairs.{all_of-insert_by, each-true, found-filter, insert_by-behind}
+use Rattle.segment_manager.proofs.objects.RankedPairs.{insert_by-front, ordered-pairwise, ranked-sym, rises-rest}
+use common.{Absent, AllByRecursion, Bool, Class, Code, Denotes, Directory, Entry, FindsPosition, Found, IfSome, Index}
+use common.{IsDirectory, IsEntry, IsIndexAt, IsIndexOf, IsObjectAt, IsTrue, Kind, Less, List, Memory, Name, Named}
+use common.{NamedClass, None, Object, ObjectRole, Seeks, Some, Unique, UniqueClass, WindowState, [], and_from}
+use common.{and_parts, ap, arith, by_kind, by_name, bytes_of, cases_lt, class_of_index, code_of, cond, cond-false}
+use common.{cond-true, current, entries_of, eq-eqb, extent_at, false, false≢true, filter, find, fold, handle, handles}
+use common.{has_good_name, has_key, holds, index_at, inl, inr, insert, insert_by, is_class, is_good_value, is_index}
+use common.{is_kind_of, is_object, kind_of, le-leb, length, live, nat_cmp, ne_eqb, none-some, object_at, object_len}
+use common.{objects_of, order_of, refl, remove, remove_object, rises, rises_from, same_Some, same_bytes, same_kind}
+use common.{same_role, serves, slice_cmp, slice_get, subst, suc, sym, table_of, true, with_object, without_object, zero}
+use common.{ℕ, ◌%◌, ◌&&◌, ◌+◌, ◌<◌, ◌==◌, ◌∙◌, ◌∷◌, ◌≡◌, ◌≢◌, ◌≤◌, ◌⊎◌}
+
+-- ---- the object at a place
+
+-- the object of an entry
+pub record StandsAt (os : List Object) (j g : ℕ) : Type 0 where
+  pub object : Object
+  pub is : slice_get os j ≡ Some object
+  pub handle : g ≡ object.extent.offset + 16
+
+-- the object of an entry is at its place
+pub stands-at : (os : List Object) (j : ℕ) {g : ℕ} → slice_get (handles os) j ≡ Some g → StandsAt os j g
+stands-at [] j {g} e = absurd (none-some g e)
+stands-at (o ∷ os) zero {g} e = record { object = o; is = refl; handle = sym (same_Some (handle o.extent) g e) }
+stands-at (o ∷ os) (suc j) e = let s = stands-at os j e in record { object = s.object; is = s.is; handle = s.handle }
+
+-- the entry of an object is its handle
+pub at-handle : (os : List Object) (j : ℕ) {o : Object} → slice_get os j ≡ Some o
+    → slice_get (handles os) j ≡ Some (handle o.extent)
+at-handle [] j {o} e = absurd (none-some o e)
+at-handle (p ∷ ps) zero {o} e = ap (λ (q : Object). Some (handle q.extent)) (same_Some p o e)
+at-handle (p ∷ ps) (suc j) e = at-handle ps j e
+
+-- a property of each object holds at each place, and conversely
+pub all-at : (P : Object → Type 0) (os : List Object) (j : ℕ) {o : Object} → AllByRecursion P os
+    → slice_get os j ≡ Some o → P o
+all-at P [] j {o} a e = absurd (none-some o e)
+all-at P (p ∷ ps) zero {o} a e = subst P (same_Some p o e) a.0
+all-at P (p ∷ ps) (suc j) a e = all-at P ps j a.1 e
+
+-- a property at each place holds for all
+pub at-all : (P : Object → Type 0) (os : List Object) → ((j : ℕ) (o : Object) → slice_get os j ≡ Some o → P o)
+    → AllByRecursion P os
+at-all P [] k = tt
+at-all P (p ∷ ps) k = (k 0 p refl, at-all P ps (λ j o e. k (suc j) o e))
+
+-- ---- in order
+
+-- each is so related to all after it
+abbrev pub Ascends : (Object → Object → Type 0) → List Object → Type 0
+Ascends R [] = Unit {0}
+Ascends R (o ∷ os) = AllByRecursion (R o) os × Ascends R os
+
+below-rest : (lt : Object → Object → Bool) → IsStrict lt → (o p : Object) (ps : List Object) → lt o p ≡ true
+    → IsTrue (rises lt (p ∷ ps)) → AllByRecursion (λ q. lt o q ≡ true) (p ∷ ps)
+below-rest lt s o p [] e h = (e, tt)
+below-rest lt s o p (q ∷ qs) e h = (
+  e,
+  below-rest lt s o q qs (s.trans o p q e (first (lt p q) (rises lt (q ∷ qs)) h))
+      (second (lt p q) (rises lt (q ∷ qs)) h),
+)
+
+-- a list that rises as a test ascends as a property
+pub rises-ascends : (lt : Object → Object → Bool) → IsStrict lt → (os : List Object) → IsTrue (rises lt os)
+    → Ascends (λ o p. lt o p ≡ true) os
+rises-ascends lt s [] h = tt
+rises-ascends lt s (o ∷ []) h = (tt, tt)
+rises-ascends lt s (o ∷ p ∷ ps) h = (
+  below-rest lt s o p ps (first (lt o p) (rises lt (p ∷ ps)) h) (second (lt o p) (rises lt (p ∷ ps)) h),
+  rises-ascends lt s (p ∷ ps) (second (lt o p) (rises lt (p ∷ ps)) h),
+)
+
+-- two places
+pub ascends-at : (R : Object → Object → Type 0) (os : List Object) (i j : ℕ) {o p : Object} → Ascends R os → i < j
+    → slice_get os i ≡ Some o → slice_get os j ≡ Some p → R o p
+ascends-at R [] i j {o} a l e f = absurd (none-some o e)
+ascends-at R (q ∷ qs) i zero a l e f = absurd (omega (arith, l))
+ascends-at R (q ∷ qs) zero (suc j) {o} {p} a l e f = subst (λ r. R r p) (same_Some q o e) (all-at (R q) qs j a.0 f)
+ascends-at R (q ∷ qs) (suc i) (suc j) a l e f = ascends-at R qs i j a.1 (omega (arith, l)) e f
+
+-- ---- the one with a key
+
+-- an object of the class that passes is the first that does, if no two objects pass
+module _ (t : Object → Bool) (lt : Object → Object → Bool) (c : Class)
+    (other : (p : Object) → is_class c p ≡ false → t p ≡ false) where
+  -- an object that passes is found
+  abbrev IsFoundIn : List Object → Object → Type 0
+  IsFoundIn os o = t o ≡ true → find t os ≡ Some o
+
+  own-if : ((o p : Object) → IsRanked lt o p → t o ≡ true → t p ≡ false) → (p : Object) (ps fs : List Object) (b : Bool)
+      → is_class c p ≡ b → AllByRecursion (IsFoundIn ps) fs → Pairwise lt (cond b (p ∷ fs) fs)
+      → AllByRecursion (IsFoundIn (p ∷ ps)) (cond b (p ∷ fs) fs)
+  own-if apart p ps fs true e ih w = (
+    λ h. cond-true (t p) (Some p) (find t ps) h,
+    all-both (IsRanked lt p) (IsFoundIn ps) (IsFoundIn (p ∷ ps))
+        (λ o r k h. cond-false (t p) (Some p) (find t ps) (apart o p (ranked-sym lt p o r) h) ∙ k h) fs w.0 ih,
+  )
+  own-if apart p ps fs false e ih w = all-each (IsFoundIn ps) (IsFoundIn (p ∷ ps))
+      (λ o k h. cond-false (t p) (Some p) (find t ps) (other p e) ∙ k h) fs ih
+
+  rest-if : (p : Object) (fs : List Object) (b : Bool) → Pairwise lt (cond b (p ∷ fs) fs) → Pairwise lt fs
+  rest-if p fs true w = w.1
+  rest-if p fs false w = w
+
+  -- each object of a class is found by its handle
+  pub own-found : ((o p : Object) → IsRanked lt o p → t o ≡ true → t p ≡ false) → (os : List Object)
+      → Pairwise lt (filter (is_class c) os) → AllByRecursion (IsFoundIn os) (filter (is_class c) os)
+  own-found apart [] w = tt
+  own-found apart (p ∷ ps) w = own-if apart p ps (filter (is_class c) ps) (is_class c p) refl
+      (own-found apart ps (rest-if p (filter (is_class c) ps) (is_class c p) w)) w
+
+  none-if : (p : Object) (ps fs : List Object) (b : Bool) → is_class c p ≡ b → (AllByRecursion (λ o. t o ≡ false) fs
+      → find t ps ≡ None) → AllByRecursion (λ o. t o ≡ false) (cond b (p ∷ fs) fs) → find t (p ∷ ps) ≡ None
+  none-if p ps fs true e k a = cond-false (t p) (Some p) (find t ps) a.0 ∙ k a.1
+  none-if p ps fs false e k a = cond-false (t p) (Some p) (find t ps) (other p e) ∙ k a
+
+  -- if no object of the class passes, none is found
+  pub none-found : (os : List Object) → AllByRecursion (λ o. t o ≡ false) (filter (is_class c) os) → find t os ≡ None
+  none-found [] a = refl
+  none-found (p ∷ ps) a = none-if p ps (filter (is_class c) ps) (is_class c p) refl (none-found ps) a
+
+class-if : (c : Class) (p : Object) (fs : List Object) (b : Bool) → is_class c p ≡ b
+    → AllByRecursion (λ o. is_class c o ≡ true) fs → AllByRecursion (λ o. is_class c o ≡ true) (cond b (p ∷ fs) fs)
+class-if c p fs true e a = (e, a)
+class-if c p fs false e a = a
+
+-- the objects of a class have this class
+pub of-class : (c : Class) (os : List Object) → AllByRecursion (λ o. is_class c o ≡ true) (filter (is_class c) os)
+of-class c [] = tt
+of-class c (p ∷ ps) = class-if c p (filter (is_class c) ps) (is_class c p) refl (of-class c ps)
+
+-- a property of each object in order holds for each inserted object
+pub all_of-ordered : (P : Object → Type 0) (lt : Object → Object → Bool) (acc os : List Object)
+    → AllByRecursion P (fold (λ os o. insert_by lt o os) acc os) → AllByRecursion P acc × AllByRecursion P os
+all_of-ordered P lt acc [] a = (a, tt)
+all_of-ordered P lt acc (o ∷ os) a =
+    let rest = all_of-ordered P lt (insert_by lt o acc) os a in
+    let one = all_of-insert_by P lt o acc rest.0 in (one.1, (one.0, rest.1))
+
+-- ---- inserting an object at its place, and removing it
+
+-- the place of an object among others: the objects before it come first
+abbrev pub IsPlaceOf : (Object → Object → Bool) → Object → List Object → ℕ → Type 0
+IsPlaceOf lt o os i =
+    (j : ℕ) (p : Object) → slice_get os j ≡ Some p → (j < i → lt o p ≡ false) × (i ≤ j → lt o p ≡ true)
+
+-- inserting an entry is inserting its object
+pub insert-at : (lt : Object → Object → Bool) (o : Object) (os : List Object) (i : ℕ) → i ≤ length os
+    → IsPlaceOf lt o os i → insert (handles os) i (handle o.extent) ≡ handles (insert_by lt o os)
+insert-at lt o [] zero l k = refl
+insert-at lt o [] (suc i) l k = absurd (omega (arith, l))
+insert-at lt o (p ∷ ps) zero l k = sym (ap handles (insert_by-front lt o p ps ((k 0 p refl).1 (omega arith))))
+insert-at lt o (p ∷ ps) (suc i) l k = ap (λ hs. handle p.extent ∷ hs) (insert-at lt o ps i (omega (arith, l))
+    (λ j q e. ((λ f. (k (suc j) q e).0 (omega (arith, f))), (λ f. (k (suc j) q e).1 (omega (arith, f))))))
+    ∙ sym (ap handles (insert_by-behind lt o p ps ((k 0 p refl).0 (omega arith))))
+
+-- removing an entry is removing its object
+pub remove-at : {o : Object} (os : List Object) (i : ℕ) → slice_get os i ≡ Some o
+    → ((j : ℕ) (p : Object) → j < i → slice_get os j ≡ Some p → handle o.extent ≢ handle p.extent)
+    → remove (handles os) i ≡ handles (remove_object (handle o.extent) os)
+remove-at {o} [] i e k = absurd (none-some o e)
+remove-at {o} (p ∷ ps) zero e k =
+    sym (ap handles (remove-here (handle o.extent) p ps (ap (λ (q : Object). handle q.extent) (sym (same_Some p o e)))))
+remove-at {o} (p ∷ ps) (suc i) e k = ap (λ hs. handle p.extent ∷ hs) (remove-at ps i e (λ j q l f. k (suc j) q
+    (omega (arith, l)) f)) ∙ sym (ap handles (remove-behind (handle o.extent) p ps (k 0 p (omega arith) refl)))
+
+-- Bytes that denote a directory contain its two indexes: each is in its heap with its block, and its entries lead to
+-- rising keys.
+
+-- ---- an index of a directory
+
+-- the order of an index is strict
+pub order-strict : (i : Index) → IsStrict (order_of i)
+order-strict Named = by_name-strict
+order-strict Unique = by_kind-strict
+
+-- a directory has both indexes
+pub directory-index : {format : ℕ} (i : Index) {d : Directory} → IsDirectory format d
+    → IsTrue (is_index (table_of i d) (objects_of i d) (order_of i))
+directory-index Named h = h.named
+directory-index Unique h = h.unique
+
+-- a property of each object holds for each in an index
+pub all-in : (P : Object → Type 0) (i : Index) (d : Directory) → AllByRecursion P d.objects
+    → AllByRecursion P (objects_of i d)
+all-in P i d a = all-ordered P (class_of_index i) (order_of i) d.objects
+    (AllByRecursion-filter P (is_class (class_of_index i)) d.objects a)
+
+-- ---- the indexes in the bytes
+
+all-handles : (P : ℕ → Type 0) (os : List Object) → AllByRecursion (λ (o : Object). P (handle o.extent)) os
+    → AllByRecursion P (handles os)
+all-handles P [] a = tt
+all-handles P (o ∷ os) a = (a.0, all-handles P os a.1)
+
+pub entries-few : {format : ℕ} (i : Index) {d : Directory} → IsDirectory format d
+    → length (entries_of i d) ≤ (table_of i d).capacity
+entries-few i {d} h = omega (
+  arith,
+  handles-length (objects_of i d),
+  (index-parts (table_of i d) (objects_of i d) (order_of i) (directory-index i h)).1,
+)
+
+in_use-some : (i : Index) {d : Directory} {format : ℕ} → IsDirectory format d
+    → IfSome (table_of i d).extent (λ x. extent_at (live d) (handle x) ≡ Some x)
+in_use-some Named {d} h = named-in_use d h.proper
+in_use-some Unique {d} h = unique-in_use d h.proper
+
+stands-in : (i : Index) (c : WindowState) {d : Directory} → Denotes current c.bytes d
+    → IsIndexAt (bytes_of c.bytes) (index_at i) (table_of i d) (entries_of i d)
+stands-in Named c k = k.named
+stands-in Unique c k = k.unique
+
+-- the index is in its heap
+pub denotes-index : (i : Index) (c : WindowState) {d : Directory} → Denotes current c.bytes d
+    → IsIndexOf c (index_at i) (table_of i d) (entries_of i d)
+denotes-index i c {d} k = record {
+  heap = denotes-heap current c.bytes d k;
+  stands = stands-in i c k;
+  slots = (index-parts (table_of i d) (objects_of i d) (order_of i) (directory-index i k.directory)).0;
+  few = entries-few i k.directory;
+  held = subst (λ l. IfSome (table_of i d).extent (λ x. extent_at l (handle x) ≡ Some x))
+      (sym (denotes-live current c.bytes d k)) (in_use-some i k.directory);
+  whole = all-handles (λ h. h % 16 ≡ 0) (objects_of i d) (all-in (λ (o : Object). handle o.extent % 16 ≡ 0) i d
+      (all-each (λ (o : Object). IsInUse (live d) o.extent) (λ (o : Object). handle o.extent % 16 ≡ 0)
+      (λ o u. u.whole) d.objects (objects-in_use d k.directory.proper)));
+}
+
+-- ---- each entry leads to a key
+
+-- the facts about an object
+record IsKnown (c : WindowState) (d : Directory) (o : Object) : Type 0 where
+  live_block : IsInUse (live d) o.extent
+  good : IsTrue (is_object current o)
+  at : IsObjectAt (bytes_of c.bytes) o
+
+all-known : (c : WindowState) {d : Directory} → Denotes current c.bytes d → AllByRecursion (IsKnown c d) d.objects
+all-known c {d} k = all-both (λ (o : Object). IsInUse (live d) o.extent) (λ (o : Object). IsTrue (is_object current o)
+    × IsObjectAt (bytes_of c.bytes) o) (IsKnown c d) (λ o u g. record { live_block = u; good = g.0; at = g.1 })
+    d.objects (objects-in_use d k.directory.proper) (all-both (λ o. IsTrue (is_object current o))
+    (IsObjectAt (bytes_of c.bytes)) (λ (o : Object). IsTrue (is_object current o) × IsObjectAt (bytes_of c.bytes) o)
+    (λ o g a. (g, a)) d.objects (each-true (is_object current) d.objects k.directory.objects) k.objects)
+
+-- a block of an object holds its sort key
+pub key-fits : (i : Index) {m : Memory} (o : Object) → IsTrue (is_object current o) → IsObjectAt m o
+    → IsTrue (serves o.extent ObjectRole (sort_key_end i m (handle o.extent)))
+key-fits i {m} o good at =
+    let x = o.extent in let room = (object-roomy current o good).room in
+    let two = and_parts (same_role x.role ObjectRole) (holds x (object_len o.name o.value))
+    (second (has_good_name current o && is_kind_of current (kind_of o.value) && is_good_value o.value)
+    (serves x ObjectRole (object_len o.name o.value)) good) in
+    let n = sort_key_end i m (handle x) in
+    and_from (same_role x.role ObjectRole) (holds x n) two.0 (le-leb (n + 16) x.len (by_index i room))
+  where
+    by_index : (j : Index) → object_len o.name o.value + 16 ≤ o.extent.len
+        → sort_key_end j m (handle o.extent) + 16 ≤ o.extent.len
+    by_index Named room =
+        let same = entry-name_len m o (good_name-short current o (good-name current o good)) at in omega arith
+    by_index Unique room = omega arith
+
+-- ---- and the keys rise
+
+-- each entry of an index agrees with the words of its object
+pub entries-in : (i : Index) (c : WindowState) {d : Directory} → Denotes current c.bytes d
+    → AllByRecursion (IsEntry (bytes_of c.bytes)) (objects_of i d)
+entries-in i c {d} k = all-in (IsEntry (bytes_of c.bytes)) i d (entries_say_objects current c.bytes d k)
+
+-- the objects of an index ascend
+pub objects-ascend : {format : ℕ} (i : Index) {d : Directory} → IsDirectory format d
+    → Ascends (λ o p. order_of i o p ≡ true) (objects_of i d)
+objects-ascend i {d} h = rises-ascends (order_of i) (order-strict i) (objects_of i d)
+    (index-parts (table_of i d) (objects_of i d) (order_of i) (directory-index i h)).2
+
+two-less : (i : Index) {m : Memory} {o p : Object} → IsEntry m o → IsEntry m p → order_of i o p ≡ true
+    → sort_order i m (handle o.extent) (handle p.extent) ≡ Less
+two-less Named {m} {o} {p} a b l = (λ j. slice_cmp nat_cmp (a.name j) (b.name j)) ∙ name-less o p l
+two-less Unique {m} {o} {p} a b l = (λ j. nat_cmp (a.code j) (b.code j)) ∙ kind-less o p l
+
+less-all : (i : Index) (m : Memory) (o : Object) (os : List Object) → IsEntry m o → AllByRecursion (IsEntry m) os
+    → AllByRecursion (λ p. order_of i o p ≡ true) os
+    → AllByRecursion (λ h. sort_order i m (handle o.extent) h ≡ Less) (handles os)
+less-all i m o [] a es l = tt
+less-all i m o (p ∷ ps) a es l = (two-less i a es.0 l.0, less-all i m o ps a es.1 l.1)
+
+sorted-handles : (i : Index) (m : Memory) (os : List Object) → AllByRecursion (IsEntry m) os
+    → Ascends (λ o p. order_of i o p ≡ true) os → IsStrictlySortedBy (sort_order i m) (handles os)
+unfolding IsStrictlySortedBy
+sorted-handles i m [] es a = tt
+sorted-handles i m (o ∷ os) es a = (less-all i m o os es.0 es.1 a.0, sorted-handles i m os es.1 a.1)
+
+-- the entries of an index are sorted
+pub denotes-sorted : (i : Index) (c : WindowState) {d : Directory} → Denotes current c.bytes d
+    → AreSortedHandles c i (entries_of i d)
+denotes-sorted i c {d} k = record {
+  keys = all-handles (HasSortKey c i) (objects_of i d) (all-in (λ (o : Object). HasSortKey c i (handle o.extent)) i d
+      (all-each (IsKnown c d) (λ (o : Object). HasSortKey c i (handle o.extent)) (λ o u. record {
+        extent = o.extent;
+        found = ap (λ l. extent_at l (handle o.extent)) (denotes-live current c.bytes d k) ∙ u.live_block.found;
+        fits = key-fits i o u.good u.at;
+      }) d.objects (all-known c k)));
+  rises = sorted-handles i (bytes_of c.bytes) (objects_of i d) (entries-in i c k) (objects-ascend i k.directory);
+}
+
+-- the bytes have a sorted index
+pub denotes-sorted_index : (i : Index) {c : WindowState} {d : Directory} → Denotes current c.bytes d
+    → HasSortedIndex c i
+denotes-sorted_index i {c} {d} k = record {
+  table = table_of i d;
+  handles = entries_of i d;
+  index = record { index = denotes-index i c k; sorted = denotes-sorted i c k };
+}
+
+-- The relation between a directory and the two indexes of its heap: the meaning of a look-up, and the entry of an
+-- object that is constructed or destroyed. The contents of the bytes are in HeldIndexes.
 
 -- the object of the key is the object of the entry at a place
 pub record IsEntryFor (i : Index) (d : Directory) (key : names.Key) (at : ℕ) : Type 0 where

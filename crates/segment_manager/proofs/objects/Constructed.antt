@@ -1,32 +1,150 @@
--- An object constructed under a key with an entry: the directory of the bytes, and the step of the machine.
-use Rattle.seg_index.specs.declared.index.Index.TheVariants as index
+-- The key of a new object that gets an entry.
+use Rattle.segment_manager.proofs.Common as common
 use Rattle.seg_types.specs.Names as names
+use Rattle.seg_index.specs.declared.index.Index.TheVariants as index
 use Rattle.seg_types.specs.Commands as asked
+use Rattle.seg_types.specs.declared.kinds.Class.TheVariants as class
+use Rattle.seg_index.specs.declared.keys.Entry.TheVariants as entry
 use Rattle.best_fit.proofs.Laws.{AllByRecursion-insert}
-use Rattle.seg_index.proofs.Laws.{place_behind, place_small}
-use Rattle.seg_index.specs.{Growth.grown_live, declared.keys.Entry.Entry}
-use Rattle.segment_manager.proofs.Common.{Denotes, Directory, EncodesLiveSet, Extent, FindsPosition, Index, IndexRole}
-use Rattle.segment_manager.proofs.Common.{IsDenied, IsGiven, IsIndexOf, IsNewKeyOf, IsTrue, KeepsBlocks, Kind, List}
-use Rattle.segment_manager.proofs.Common.{LiveSet, New, NoSpace, None, Numbers, Object, ObjectRole, Option, Plan}
-use Rattle.segment_manager.proofs.Common.{PreparesOk, Refused, Request, RequestsBlocksOk, RestoresBlocks, Role, Scalar}
-use Rattle.segment_manager.proofs.Common.{ScalarKind, Some, Value, WindowState, added, allocated-live, ap, arith, bare}
-use Rattle.segment_manager.proofs.Common.{bytes_of, class_of, class_of_index, count_of, current, entries_of}
-use Rattle.segment_manager.proofs.Common.{entry_count, extents_of, grown_bytes, grown_capacity, handle, if◌then◌else◌}
-use Rattle.segment_manager.proofs.Common.{index_at, inl, inr, insert, is_proper, keeps-trans, kind_of, le-ltb, length}
-use Rattle.segment_manager.proofs.Common.{live, live_of, lt-ltb, name_of, object_len, objects_of, perform, place}
-use Rattle.segment_manager.proofs.Common.{placed_is_proper, refl, resized, subst, sym, table_of, with_entry}
-use Rattle.segment_manager.proofs.Common.{with_new_index, with_new_object, with_object, with_spare_entry, with_table_of}
-use Rattle.segment_manager.proofs.Common.{◌*◌, ◌<◌, ◌∙◌, ◌≡◌, ◌≤◌, Absent, AddKeeps, AddsEntry, BackingArray, Content}
-use Rattle.segment_manager.proofs.directory.CommandSteps.{perform-new, perform-no_space}
-use Rattle.segment_manager.proofs.directory.ExtentOrder.{live-rises, resized-fresh, rising-insert}
-use Rattle.segment_manager.proofs.directory.{AnyDirectory.denotes-kept, OneObject.handles-length}
-use Rattle.segment_manager.proofs.indexes.Tabled.{IsEntered, entered-denotes, entered-none, entered-some, grown_into}
-use Rattle.segment_manager.proofs.indexes.Tables.{same-table}
-use Rattle.segment_manager.proofs.indexes.{Bridge.entry-added, Bridge.lookup-absent, HeldIndexes.denotes-index}
-use Rattle.segment_manager.proofs.objects.NewKeys.{key-class, key-has, key-name, key-own, key-seeks, object_of}
-use Rattle.segment_manager.proofs.objects.Taking.{IsMade, growth-index, taken-index}
-use Rattle.segment_manager.proofs.{Common.with_value, Common.ℕ, Common.ℤ, directory.HeapCalls.denotes-live}
-use Rattle.segment_manager.specs.objects.NewObjects.{FindsNone}
+use Rattle.seg_index.proofs.Laws.{ObjectStays, belongs-at, keeps-sorted, place_behind, place_small, stays-trans}
+use Rattle.seg_index.specs.{Growth.grown_live, Sorted.BelongsAt, Sorted.IsKeyOf}
+use Rattle.segment_manager.proofs.{indexes.Bridge.own-name, indexes.Bridge.seeks-sort, objects.Destroys.of-directory}
+use Rattle.segment_manager.proofs.{indexes.Indexes.same-itself, objects.Heads.name-short, objects.Heads.object-entry}
+use Rattle.segment_manager.proofs.blocks.NewBlocks.{allocated-serves}
+use Rattle.segment_manager.proofs.directory.AnyDirectory.{denotes-kept, denotes-live, perform-new, perform-no_space}
+use Rattle.segment_manager.proofs.directory.Frame.{denotes-with, handles-length}
+use Rattle.segment_manager.proofs.directory.LiveSet.{adding, live-rises, resized-fresh, rising-insert}
+use Rattle.segment_manager.proofs.indexes.Bridge.{denotes-index, denotes-sorted, entry-added, lookup-absent, own-kind}
+use Rattle.segment_manager.proofs.indexes.OtherTables.{IsEntered, entered-denotes, entered-none, entered-some}
+use Rattle.segment_manager.proofs.indexes.OtherTables.{grown_into, key_in, same-table}
+use Rattle.segment_manager.proofs.objects.{Exchanged.taken-growth, Exchanged.taken-index, KindCodes.known-kind}
+use Rattle.segment_manager.proofs.objects.Destroys.{ForIndex, IsHere, IsReadAt, handle-answers, has-object, here}
+use Rattle.segment_manager.proofs.objects.Exchanged.{IsMade, IsTaken, empty-taken, growth-index, growth-stays, made-key}
+use Rattle.segment_manager.proofs.objects.Exchanged.{made-object, made-stays, made-taken, placed-next, restored-taken}
+use Rattle.segment_manager.specs.{containers.Filled.IsDenied, containers.Filled.IsGiven, objects.NewObjects.FindsNone}
+use Rattle.segment_manager.specs.objects.PendingObjects.{AddsPendingEntry, BeginsAnonymous, BeginsEntryOk, GivesAllBack}
+use Rattle.segment_manager.specs.objects.PendingObjects.{IsReadyFor, IsReadyForEntry}
+use common.{Absent, AddKeeps, AddsEntry, AllocatesOk, Anonymous, AnswersWith, BackingArray, BeginsObjectOk, Bool}
+use common.{ChangesBytes, Class, Code, Content, Denotes, DenotesCurrent, Directory, EncodesLiveSet, Entry, Extent}
+use common.{FindsPosition, HasEntries, HasIndexEntry, HasObject, Head, Index, IndexRole, IsAbsentAt, IsAnonymousAt}
+use common.{IsEntry, IsIndexOf, IsNewKeyOf, IsObjectInBlock, IsSegment, IsTrue, KeepsBlocks, Kind, LeadsThere, List}
+use common.{LiveSet, MakesValueErr, MakesValueOk, Memory, Name, Named, New, NoSpace, None, Numbers, Object, ObjectRole}
+use common.{Option, PendingEntry, Plan, PreparesOk, Refusal, Refused, Request, RequestsBlocksOk, RestoresBlocks, Role}
+use common.{SameSurroundings, SameSurroundings-trans, Scalar, ScalarKind, Seeks, SegmentState, Some, Unique, Value}
+use common.{WindowState, WritesObjectHeader, WritesUnindexedObject, [], added, allocated-live, and_from, ap, arith}
+use common.{bare, bytes_of, class_code, class_of, class_of_index, code_of, count_of, current, entries_of, entry_count}
+use common.{eq-eqb, extents_of, false, find, grown_bytes, grown_capacity, handle, handle_at, has_good_name, has_key}
+use common.{head_len, if◌then◌else◌, index_at, inl, inr, insert, is_class, is_good_value, is_kind_of, is_name}
+use common.{is_object, is_object_at, is_proper, is_some, is_text_name, is_value, keeps-trans, kind_of, laid-heap}
+use common.{le-leb, le-ltb, length, length-replicate, list_all, live, live_of, lt-ltb, name_of, nat_le, none-some}
+use common.{object_at, object_len, objects_of, padded, perform, place, placed_is_proper, prepared, refl, replicate}
+use common.{resized, room_for, same_bytes, serves, subst, suc, sym, table_of, true, value_extents, value_len}
+use common.{with_entry, with_new_index, with_new_object, with_object, with_spare_entry, with_table_of, with_value, zero}
+use common.{ℕ, ℤ, ◌&&◌, ◌*◌, ◌+◌, ◌<◌, ◌==◌, ◌∙◌, ◌∷◌, ◌≡◌, ◌≤◌}
+
+-- ---- numbers
+
+-- equal numbers pass a test alike
+all-replicate : (t : ℤ → Bool) (n : ℕ) (z : ℤ) → IsTrue (t z) → IsTrue (list_all t (replicate n z))
+all-replicate t zero z h = refl
+all-replicate t (suc n) z h = and_from (t z) (list_all t (replicate n z)) h (all-replicate t n z h)
+
+-- as many numbers of the kind as an object can have
+pub numbers-value : (k : ScalarKind) (zs : List ℤ) → 1 ≤ length zs → length zs ≤ 1048576
+    → IsTrue (list_all (is_value k) zs) → IsTrue (is_good_value (Numbers k zs))
+numbers-value k zs low high all = and_from (nat_le 1 (length zs) && nat_le (length zs) 1048576) (list_all (is_value k)
+    zs) (and_from (nat_le 1 (length zs)) (nat_le (length zs) 1048576) (le-leb 1 (length zs) low) (le-leb (length zs)
+    1048576 high)) all
+
+-- this many equal values are a good value
+pub equal-good : (k : ScalarKind) (n : ℕ) (z : ℤ) → 1 ≤ n → n ≤ 1048576 → IsTrue (is_value k z)
+    → IsTrue (is_good_value (Numbers k (replicate n z)))
+equal-good k n z low high h =
+    let long = length-replicate n z in
+    numbers-value k (replicate n z) (omega (arith, long)) (omega (arith, long)) (all-replicate (is_value k) n z h)
+
+-- the names in keys are names of the format
+pub text-is_name : (name : List ℕ) → is_text_name name ≡ true → IsTrue (is_name current name)
+unfolding current
+text-is_name name h = h
+
+-- ---- the parts of a key
+
+-- an object of a value under a name, of the class of an index
+abbrev pub object_of : Index → List ℕ → Value → Extent → Object
+object_of i name v x = record { class = class_of_index i; name = name; value = v; extent = x }
+
+-- the class of a new key is its index's
+pub key-class : (i : Index) (e : Entry) (key : names.Key) (name : List ℕ) (kind : Kind) → IsNewKeyOf i e key name kind
+    → class_of key ≡ class_of_index i
+key-class Named (Name s) (names.ByName n) name kind h = refl
+key-class Unique (Code c) (names.ByKind u) name kind h = refl
+key-class i e key name kind h = absurd h
+
+-- the name of a new key is the entry's
+pub key-name : (i : Index) (e : Entry) (key : names.Key) {name : List ℕ} (kind : Kind) → IsNewKeyOf i e key name kind
+    → name_of key ≡ name
+key-name Named (Name s) (names.ByName n) kind h = sym h.1
+key-name Unique (Code c) (names.ByKind u) kind h = sym h.1
+key-name i e key kind h = absurd h
+
+-- a new key is searched for in its index
+pub key-seeks : (i : Index) (e : Entry) (key : names.Key) (name : List ℕ) (kind : Kind) → IsNewKeyOf i e key name kind
+    → Seeks i e key
+key-seeks Named (Name s) (names.ByName n) name kind h = h.0
+key-seeks Unique (Code c) (names.ByKind u) name kind h = h.0
+key-seeks i e key name kind h = absurd h
+
+-- an object of the name and the kind has the sort key
+pub key-of : (i : Index) (e : Entry) (key : names.Key) {m : Memory} (name : List ℕ) (o : Object)
+    → IsNewKeyOf i e key name (kind_of o.value) → o.name ≡ name → IsEntry m o → IsKeyOf e m (handle o.extent)
+key-of Named (Name s) (names.ByName n) name o h is a = a.name ∙ is ∙ h.1 ∙ sym h.0
+key-of Unique (Code c) (names.ByKind u) name o h is a = a.code ∙ sym (h.0 ∙ ap code_of h.2)
+key-of i e key name o h is a = absurd h
+
+-- its name is short
+pub key-short : (i : Index) (e : Entry) (key : names.Key) (name : List ℕ) (kind : Kind) → IsNewKeyOf i e key name kind
+    → length name ≤ 255
+key-short Named (Name s) (names.ByName n) name kind h =
+    name-short current name (subst (λ bs. IsTrue (is_name current bs)) (sym h.1) h.2)
+key-short Unique (Code c) (names.ByKind u) name kind h =
+    let l : length name ≡ 0 = ap (λ (bs : List ℕ). length bs) h.1 in omega arith
+key-short i e key name kind h = absurd h
+
+-- an object with the key
+pub key-has : (i : Index) (e : Entry) (key : names.Key) (name : List ℕ) (v : Value) (x : Extent)
+    → IsNewKeyOf i e key name (kind_of v) → has_key key (object_of i name v x) ≡ true
+key-has Named (Name s) (names.ByName n) name v x h = ap (same_bytes n) h.1 ∙ same-itself n
+key-has Unique (Code c) (names.ByKind u) name v x h = eq-eqb (code_of u) (code_of (kind_of v)) (ap code_of h.2)
+key-has i e key name v x h = absurd h
+
+-- a new key is its object's own
+pub key-own : (i : Index) (e : Entry) (key : names.Key) (name : List ℕ) (v : Value) (d : Directory) (x : Extent)
+    → IsNewKeyOf i e key name (kind_of v) → object_at d key ≡ None
+    → object_at d (key_in i (object_of i name v x)) ≡ None
+key-own Named (Name s) (names.ByName n) name v d x h none = ap (λ bs. object_at d (names.ByName bs)) h.1 ∙ none
+key-own Unique (Code c) (names.ByKind u) name v d x h none =
+    ap (λ (w : Kind). object_at d (names.ByKind w)) (sym h.2) ∙ none
+key-own i e key name v d x h none = absurd h
+
+key-good_name : (i : Index) (e : Entry) (key : names.Key) (name : List ℕ) (v : Value) (x : Extent)
+    → IsNewKeyOf i e key name (kind_of v) → IsTrue (has_good_name current (object_of i name v x))
+key-good_name Named (Name s) (names.ByName n) name v x h = subst (λ bs. IsTrue (is_name current bs)) (sym h.1) h.2
+key-good_name Unique (Code c) (names.ByKind u) name v x h = ap (λ (bs : List ℕ). length bs == 0) h.1
+key-good_name i e key name v x h = absurd h
+
+-- a good value in a block with room for it
+pub key-object : (i : Index) (e : Entry) (key : names.Key) (name : List ℕ) (v : Value) (x : Extent)
+    → IsNewKeyOf i e key name (kind_of v) → IsTrue (is_kind_of current (kind_of v)) → IsTrue (is_good_value v)
+    → IsTrue (serves x ObjectRole (object_len name v)) → IsTrue (is_object current (object_of i name v x))
+key-object i e key name v x h kind good s =
+    let o = object_of i name v x in
+    and_from (has_good_name current o && is_kind_of current (kind_of v) && is_good_value v) (serves x ObjectRole
+    (object_len name v)) (and_from (has_good_name current o && is_kind_of current (kind_of v)) (is_good_value v)
+    (and_from (has_good_name current o) (is_kind_of current (kind_of v)) (key-good_name i e key name v x h) kind)
+    good) s
+
+-- An object constructed under a key with an entry: the directory of the bytes, and the step of the machine.
 
 -- ---- a place in an index
 
@@ -41,12 +159,6 @@ entry-of index.Unique d next = refl
 -- the request for a block of its own that a full index makes
 abbrev grows : Index → Directory → (Directory → Plan) → Plan
 grows i d next = with_new_index (grown_capacity (table_of i d).capacity) (λ t. next (with_table_of i d t))
-
--- the capacity of the index allows one more
-entry-room : (i : Index) (d : Directory) (next : Directory → Plan)
-    → length (objects_of i d) < (table_of i d).capacity → with_entry d (class_of_index i) next ≡ next d
-entry-room i d next h = entry-of i d next ∙ ap (λ b. if b then next (with_table_of i d (table_of i d)) else grows i d
-    next) (lt-ltb (length (objects_of i d)) (table_of i d).capacity h) ∙ ap next (same-table i)
 
 entry-full : (i : Index) (d : Directory) (next : Directory → Plan) → (table_of i d).capacity ≤ length (objects_of i d)
     → with_entry d (class_of_index i) next ≡ grows i d next
@@ -131,8 +243,9 @@ grows-performs i a b {d} None next k h =
     let x = denotes-index i a k in
     let room : length (objects_of i d) < (table_of i d).capacity =
     omega (arith, h.0, count-is i d x, x.stands.capacity) in
-    ap (perform d (live d)) (entry-room i d next room) ∙ ap (λ l. perform d l (next d))
-    (sym (denotes-live current a.bytes d k) ∙ ap (λ (c : WindowState). live_of c.bytes) (sym h.1))
+    ap (perform d (live d)) (entry-of i d next ∙ ap (λ b. if b then next (with_table_of i d (table_of i d)) else grows i
+    d next) (lt-ltb (length (objects_of i d)) (table_of i d).capacity room) ∙ ap next (same-table i)) ∙ ap (λ l. perform
+    d l (next d)) (sym (denotes-live current a.bytes d k) ∙ ap (λ (c : WindowState). live_of c.bytes) (sym h.1))
 grows-performs i a b {d} (Some g) next k h =
     let x = denotes-index i a k in
     let full : (table_of i d).capacity ≤ length (objects_of i d) =
@@ -307,3 +420,413 @@ module _ (i : Index) {a : WindowState} {d : Directory} (e : Entry) {key : names.
             (resized (live_of r.between.bytes) x) g r.grows (ap (λ j. place (live_of r.between.bytes) j ObjectRole)
             (sym len) ∙ r.takes.placed) (record { met = λ next. refl });
       }
+
+-- An object made under a key whose value takes blocks of its own, whatever it is, as a step of the machine: its
+-- requests are met in order, or one is refused and all is given back.
+
+-- ---- places
+
+growth-place : {a b : WindowState} (at : ℕ) (g : Option ℕ) → PreparesOk a b at g → SameSurroundings a b
+growth-place {a} at None h = subst (SameSurroundings a) (sym h.1) (record { before = refl; after = refl })
+growth-place at (Some g) h = h.1.keeps.place
+
+keeps-place : {a b : WindowState} (at : ℕ) (t : BackingArray) (g : Option ℕ) → AddKeeps a b at t g
+    → SameSurroundings a b
+keeps-place at t None k = k.place
+keeps-place at t (Some g) k = k.place
+
+-- no object has no key
+pub no_key-none : (os : List Object) → find (has_key names.NoKey) os ≡ None
+no_key-none [] = refl
+no_key-none (o ∷ os) = no_key-none os
+
+-- a look-up that finds no entry, for each directory
+pub away-in : (i : Index) {a : WindowState} {d : Directory} (e : Entry) (at : ℕ)
+    → Denotes current a.bytes d → IsAbsentAt a i e at → FindsPosition (bytes_of a.bytes) e (entries_of i d) (Absent at)
+away-in i {a} {d} e at said away = away (table_of i d) (entries_of i d) (denotes-index i a said)
+
+-- ---- all directories
+
+-- the object exists, for each directory of the old bytes
+pub record IsMadeNow (a c : WindowState) (key : names.Key) (content : Content) (h : ℕ) : Type 0 where
+  pub place : SameSurroundings a c
+  pub each : (d : Directory) → DenotesCurrent a.bytes d → (object_at d key ≡ None) × IsNewObject c d key content h
+
+-- or it is refused for each
+pub record IsMadeNever (a c : WindowState) (key : names.Key) (content : Content) : Type 0 where
+  pub place : SameSurroundings a c
+  pub each : (d : Directory) → DenotesCurrent a.bytes d → (object_at d key ≡ None) × IsNoObject c d key content
+
+unchanged : {w : WindowState} (l : LiveSet) {from n : ℕ} → EncodesLiveSet current w.bytes l
+    → ChangesBytes current w w from n
+unchanged {w} l laid = record {
+  place = record { before = refl; after = refl };
+  live = laid-heap w.bytes l laid;
+  rest = record { at = λ k h. refl };
+}
+
+module _ (content : Content) where
+  abbrev kind : Kind
+  kind = kind_of (bare content)
+
+  abbrev many : ℕ
+  many = count_of (bare content)
+
+  abbrev long : ℕ
+  long = value_len (bare content)
+
+  -- ---- the value in its object's block
+
+  module _ (a t m w : WindowState) (class : Class) (name : List ℕ) (h at : ℕ)
+      (take : AllocatesOk current a t (room_for name long) ObjectRole h)
+      (headed : WritesObjectHeader t m kind class name many h
+      at) (r : MakesValueOk content m w (record { handle = h; at = at })) where
+    block : AllocatesOk current a r.empty (room_for name long) ObjectRole h
+    block = empty-taken take headed r.change
+
+    abbrev own : Object
+    own = record { class = class; name = name; value = r.value; extent = block.extent }
+
+    both-taken : IsTaken a w (extents_of own)
+    both-taken = made-taken name block headed.start r.storage
+
+    serving : IsTrue (serves block.extent ObjectRole (object_len name r.value))
+    serving = subst (λ n. IsTrue (serves block.extent ObjectRole n))
+        (ap (λ n. head_len + padded (length name) + n) (sym r.len)) (allocated-serves block)
+
+    made-in : IsTrue (is_object current own) → IsMade a w own
+    made-in good =
+        let headed' : WritesObjectHeader t m (kind_of r.value) class name (count_of r.value) h at =
+        subst (λ n. WritesObjectHeader t m (kind_of r.value) class name n h at) (sym r.count)
+        (subst (λ k. WritesObjectHeader t m k class name many h at) (sym r.is_kind) headed) in
+        record {
+          good = good;
+          taken = both-taken;
+          at = made-object r.value block headed' r.change r.storage r.said;
+        }
+
+    placed-at : place (live_of a.bytes) (object_len name (bare content)) ObjectRole ≡ Some block.extent
+    placed-at = block.placed
+
+    given-in : {d : Directory} → IsGiven d (resized (live_of a.bytes) block.extent) content r.value r.left
+    given-in {d} = subst (λ l. IsGiven d l content r.value r.left) (sym (placed-next block)) (r.given d)
+
+  -- ---- the directory, under a key with an entry
+
+  module _ {a m : WindowState} {key : names.Key} {h at : ℕ} {e : PendingEntry}
+      (g : BeginsEntryOk a m key kind many long h at e) {d : Directory} (said : Denotes current a.bytes d) where
+    absent : object_at d key ≡ None
+    absent = (lookup-absent e.index a g.entry key said (key-seeks e.index g.entry key g.name kind g.is)
+        (away-in e.index g.entry e.place said g.absent)).none
+
+    entry-new : {w c : WindowState} → MakesValueOk content m w (record { handle = h; at = at })
+        → AddsPendingEntry w c h e
+        → IsNewObject c d key content h
+    entry-new {w} {c} r added =
+        let b : WindowState = g.requested.between in let class = class_of_index e.index in
+        let took = block b g.taken m w class g.name h at g.requested.takes g.headed r in
+        content-entered e.index a d g.entry key g.name kind content said g.is b w e.place e.growth.block
+        g.requested.grows (placed-at b g.taken m w class g.name h at g.requested.takes g.headed r)
+        (given-in b g.taken m w class g.name h at g.requested.takes g.headed r) r.is_kind r.count (made-in b g.taken
+        m w class g.name h at g.requested.takes g.headed r (key-object e.index g.entry key g.name r.value
+        took.extent (subst (IsNewKeyOf e.index g.entry key g.name) (sym r.is_kind) g.is)
+        (known-kind (kind_of r.value)) r.good (serving b g.taken m w class g.name h at g.requested.takes g.headed
+        r))) took.at (away-in e.index g.entry e.place said g.absent)
+        (record { adds = added.adds; live = added.live; keeps = added.keeps })
+
+    entry-denied : {w c : WindowState} {why : Refusal} → MakesValueErr content m w (record { handle = h; at = at }) why
+        → RestoresBlocks a c → IsNoObject c d key content
+    entry-denied {c} r back =
+        let took = empty-taken g.requested.takes g.headed r.change in
+        record {
+          refused =
+              content-denied e.index a d g.entry key g.name kind content said g.is g.requested.between e.growth.block
+              g.requested.grows took.placed (subst (λ l. IsDenied d l content) (sym (placed-next took)) (r.denied d));
+          denotes = restored-denotes a c d said back;
+        }
+
+  -- ---- without one
+
+  module _ (a m : WindowState) (h at : ℕ) (g : BeginsAnonymous a m names.NoKey kind many long h at) (d : Directory)
+      (said : Denotes current a.bytes d) where
+    abbrev alone_in : Extent → Value → Object
+    alone_in x w = record { class = Anonymous; name = []; value = w; extent = x }
+
+    abbrev alone_plan : (Object → Directory → Plan) → Extent → Plan
+    alone_plan next x = with_value content (λ w. next (alone_in x w) (with_object d (alone_in x w)))
+
+    alone-new : {w : WindowState} → MakesValueOk content m w (record { handle = h; at = at })
+        → IsNewObject w d names.NoKey content h
+    alone-new {w} r =
+        let took = block a g.taken m w Anonymous [] h at g.takes g.headed r in let x : Extent = took.extent in
+        let o = alone_in x r.value in let same = denotes-live current a.bytes d said in
+        let made = made-in a g.taken m w Anonymous [] h at g.takes g.headed r (and_from (true && is_kind_of current
+        (kind_of r.value) && is_good_value r.value) (serves x ObjectRole (object_len [] r.value)) (and_from (true &&
+        is_kind_of current (kind_of r.value)) (is_good_value r.value) (and_from true (is_kind_of current (kind_of
+        r.value)) refl (known-kind (kind_of r.value))) r.good) (serving a g.taken m w Anonymous [] h at g.takes
+        g.headed r)) in
+        record {
+          object = o;
+          after = with_object d o;
+          left = r.left;
+          at = took.at;
+          count = r.count;
+          met = λ next. perform-new d (live d) ObjectRole (object_len [] (bare content)) (alone_plan next) x
+              (ap (λ l. place l (object_len [] (bare content)) ObjectRole) (sym same) ∙ placed-at a g.taken m w
+              Anonymous [] h at g.takes g.headed r) ∙ (subst (λ l. IsGiven d (resized l x) content r.value r.left) same
+              (given-in a g.taken m w Anonymous [] h at g.takes g.headed r)).met (λ w. next (alone_in x w)
+              (with_object d (alone_in x w)));
+          denotes = denotes-with a w said made.good refl
+              (subst (λ l. EncodesLiveSet current w.bytes (adding l (extents_of o)))
+              same made.taken.live) (subst (λ (l : LiveSet). KeepsBlocks a w l.extents) same made.taken.keeps) made.at;
+        }
+
+    alone-denied : {w c : WindowState} {why : Refusal} → MakesValueErr content m w (record { handle = h; at = at }) why
+        → RestoresBlocks a c → IsNoObject c d names.NoKey content
+    alone-denied {w} {c} r back =
+        let took = empty-taken g.takes g.headed r.change in let x : Extent = took.extent in
+        let same = denotes-live current a.bytes d said in
+        record {
+          refused = λ next. perform-new d (live d) ObjectRole (object_len [] (bare content)) (alone_plan next) x
+              (ap (λ l. place l (object_len [] (bare content)) ObjectRole) (sym same) ∙ took.placed)
+              ∙ (subst (λ l. IsDenied d (resized l x) content) same (subst (λ l. IsDenied d l content)
+              (sym (placed-next took)) (r.denied d))) (λ w. next (alone_in x w) (with_object d (alone_in x w)));
+          denotes = restored-denotes a c d said back;
+        }
+
+  -- ---- an entry is added, or all blocks are freed
+
+  module _ (a : WindowState) {m : WindowState} (b : IsSegment a.bytes) (key : names.Key) (h at : ℕ) where
+    entry-taken : {w : WindowState} {e : PendingEntry} → (g : BeginsEntryOk a m key kind many long h at e)
+        → (r : MakesValueOk content m w (record { handle = h; at = at })) → IsTaken g.requested.between w
+        ((block g.requested.between g.taken m w (class_of_index e.index) g.name h at g.requested.takes g.headed
+        r).extent ∷ value_extents r.value)
+    entry-taken {w} {e} g r =
+        both-taken g.requested.between g.taken m w (class_of_index e.index) g.name h at g.requested.takes g.headed r
+
+    -- the conditions for adding the entry hold
+    entry-wanted : {w : WindowState} {e : PendingEntry} → BeginsEntryOk a m key kind many long h at e
+        → MakesValueOk content m w (record { handle = h; at = at }) → IsReadyForEntry w h e
+    entry-wanted {w} {e} g r =
+        let i : Index = e.index in let mid : WindowState = g.requested.between in
+        let d : Directory = b.0 in let t = table_of i d in
+        let hs = entries_of i d in let x = denotes-index i a b.1.denotes in
+        let took = block mid g.taken m w (class_of_index i) g.name h at g.requested.takes g.headed r in
+        let taken = entry-taken g r in
+        let grown =
+        prepared a mid (index_at i) e.growth.block t hs x g.requested.grows (place_behind i) (place_small i) in
+        let index : IsIndexOf w (index_at i) t hs =
+        taken-index _ taken (place_behind i) (place_small i) (growth-index i e.growth.block g.requested.grows x) in
+        let stay : (n : ℕ) → ObjectStays a w n = stays-trans {b = mid} (growth-stays (index_at i) e.growth.block
+        g.requested.grows) (made-stays _ taken) in
+        let sorted = denotes-sorted i a b.1.denotes in
+        let new = subst (IsNewKeyOf i g.entry key g.name) (sym r.is_kind) g.is in
+        let o = object_of i g.name r.value took.extent in
+        let made : IsMade mid w o = made-in mid g.taken m w (class_of_index i) g.name h at g.requested.takes g.headed r
+        (key-object i g.entry key g.name r.value took.extent new (known-kind (kind_of r.value)) r.good
+        (serving mid g.taken m w (class_of_index i) g.name h at g.requested.takes g.headed r)) in
+        let short = key-short i g.entry key g.name (kind_of r.value) new in
+        let belongs = belongs-at {a = a} {b = w} g.entry e.place (handle took.extent)
+        (seeks-sort i g.entry key (key-seeks i g.entry key g.name (kind_of r.value) new)) sorted stay (made-key i made)
+        (key-of i g.entry key {m = bytes_of w.bytes} g.name o new refl
+        (object-entry (bytes_of w.bytes) o short made.at)) (g.absent t hs x) in
+        record {
+          entry = record {
+            table = t;
+            handles = hs;
+            index = record { index = index; sorted = keeps-sorted stay i hs sorted };
+            belongs = subst (BelongsAt w i hs e.place) (sym took.at) belongs;
+          };
+          growth = taken-growth mid w _ (index_at i) e.growth.block taken (place_behind i) (place_small i) grown;
+        }
+
+    -- a made value: the object is ready
+    pub value-ready : (entry : Option PendingEntry) {w : WindowState} → BeginsObjectOk a m key kind many long h at entry
+        → MakesValueOk content m w (record { handle = h; at = at }) → IsReadyFor w h entry
+    value-ready None g r = tt
+    value-ready (Some e) g r = entry-wanted g r
+
+    -- a value that was not made: the object has no entry
+    pub value-loose : (entry : Option PendingEntry) (w : WindowState) (why : Refusal)
+        → BeginsObjectOk a m key kind many long h at entry
+        → MakesValueErr content m w (record { handle = h; at = at }) why → WritesUnindexedObject a w h entry
+    value-loose None w why g r = record {
+      len = room_for [] long;
+      taken = w;
+      takes = restored-taken (empty-taken g.takes g.headed r.change) r.restored;
+      change = unchanged (live_of r.empty.bytes) r.restored.laid;
+    }
+    value-loose (Some e) w why g r = record {
+      len = room_for g.name long;
+      taken = w;
+      requested = record {
+        between = g.requested.between;
+        grows = g.requested.grows;
+        takes = restored-taken (empty-taken g.requested.takes g.headed r.change) r.restored;
+      };
+      change = unchanged (live_of r.empty.bytes) r.restored.laid;
+    }
+
+    -- ---- all directories
+
+    module _ {w c : WindowState} {e : PendingEntry} (g : BeginsEntryOk a m key kind many long h at e) where
+      entry-place : (r : MakesValueOk content m w (record { handle = h; at = at })) → AddsPendingEntry w c h e
+          → SameSurroundings a c
+      entry-place r added =
+          let i : Index = e.index in let mid : WindowState = g.requested.between in
+          let q = (entry-wanted g r).entry in
+          SameSurroundings-trans a mid c (growth-place (index_at i) e.growth.block g.requested.grows)
+          (SameSurroundings-trans mid w c (entry-taken g r).keeps.place
+          (keeps-place (index_at i) q.table e.growth.block (added.keeps q.table q.handles q.index.index)))
+
+      -- the value is made
+      value-made : MakesValueOk content m w (record { handle = h; at = at }) → AddsPendingEntry w c h e
+          → IsMadeNow a c key content h
+      value-made r added = record {
+        place = entry-place r added;
+        each = λ d st. (absent g st.denotes, entry-new g st.denotes r added);
+      }
+
+      value-refused : {why : Refusal} → MakesValueErr content m w (record { handle = h; at = at }) why
+          → RestoresBlocks a c → IsMadeNever a c key content
+      value-refused r back = record {
+        place = back.keeps.place;
+        each = λ d st. (absent g st.denotes, entry-denied g st.denotes r back);
+      }
+
+  -- the same for an anonymous object
+  module _ {a m : WindowState} (h at : ℕ) (g : BeginsAnonymous a m names.NoKey kind many long h at) where
+    alone-made : {w : WindowState} → MakesValueOk content m w (record { handle = h; at = at })
+        → IsMadeNow a w names.NoKey content h
+    alone-made {w} r = record {
+      place = (both-taken a g.taken m w Anonymous [] h at g.takes g.headed r).keeps.place;
+      each = λ d st. (no_key-none d.objects, alone-new a m h at g d st.denotes r);
+    }
+
+    alone-refused : {w c : WindowState} {why : Refusal} → MakesValueErr content m w (record { handle = h; at = at }) why
+        → RestoresBlocks a c → IsMadeNever a c names.NoKey content
+    alone-refused r back = record {
+      place = back.keeps.place;
+      each = λ d st. (no_key-none d.objects, alone-denied a m h at g d st.denotes r back);
+    }
+
+  -- the same for each key
+  module _ {a m : WindowState} (b : IsSegment a.bytes) {key : names.Key} (h at : ℕ) where
+    -- a made value: the object is constructed
+    pub value-built : (entry : Option PendingEntry) {w : WindowState} {c : WindowState}
+        → BeginsObjectOk a m key kind many long h at entry
+        → MakesValueOk content m w (record { handle = h; at = at }) → LeadsThere w c h entry
+        → IsMadeNow a c key content h
+    value-built None {c} g r same = subst (λ (q : names.Key). IsMadeNow a c q content h) (sym g.is)
+        (subst (λ (s : WindowState). IsMadeNow a s names.NoKey content h) (sym same)
+        (alone-made h at (record { is = refl; taken = g.taken; takes = g.takes; headed = g.headed }) r))
+    value-built (Some e) g r added = value-made a b key h at g r added
+
+    -- a value that was not made: the object is not constructed
+    pub value-not_built : (entry : Option PendingEntry) {w : WindowState} {c : WindowState} {why : Refusal}
+        → BeginsObjectOk a m key kind many long h at entry
+        → MakesValueErr content m w (record { handle = h; at = at }) why
+        → GivesAllBack w c h entry → IsMadeNever a c key content
+    value-not_built None {w} {c} {why} g r gives =
+        let back = gives a (value-loose a b key h at None w why g r) in
+        subst (λ (q : names.Key). IsMadeNever a c q content) (sym g.is)
+        (alone-refused h at (record { is = refl; taken = g.taken; takes = g.takes; headed = g.headed }) r back)
+    value-not_built (Some e) {w} {why} g r gives =
+        value-refused a b key h at g r (gives a (value-loose a b key h at (Some e) w why g r))
+
+-- The object of a handle, and the entry that it has.
+
+-- ---- the object of a handle
+
+-- the handle means itself
+itself : {s : SegmentState} {h : ℕ} → AnswersWith s (λ d. is_object_at d h) true
+    → AnswersWith s (λ d. handle_at d (names.ByHandle h)) (Some h)
+itself {h} a = handle-answers h a
+
+pub object-here : {s : SegmentState} {h : ℕ} → AnswersWith s (λ d. is_object_at d h) true → (d : Directory)
+    → DenotesCurrent s.cut.bytes d → IsHere s.cut.bytes d (names.ByHandle h) h
+object-here {s} {h} a d k = here s.cut.bytes d (names.ByHandle h) h k.denotes ((itself a).answers d k)
+
+-- as the view before the call names the segment
+pub seen-there : {s t : SegmentState} (view : s ≡ t) (h : ℕ) → AnswersWith t (λ d. is_object_at d h) true
+    → AnswersWith s (λ d. is_object_at d h) true
+seen-there view h = subst (λ (u : SegmentState). AnswersWith u (λ d. is_object_at d h) true) (sym view)
+
+-- the object of a handle exists
+pub has-own_object : {s t : SegmentState} (view : s ≡ t) (h : ℕ) → IsSegment s.cut.bytes
+    → AnswersWith t (λ d. is_object_at d h) true → HasObject s.cut.bytes h
+has-own_object view h i a = has-object (names.ByHandle h) i (itself (seen-there view h a))
+
+none-if : (r : Option Object) → false ≡ is_some r → r ≡ None
+none-if None e = refl
+none-if (Some o) e = absurd (cc)
+
+-- or no object has it
+pub no-object : {s : SegmentState} (h : ℕ) → AnswersWith s (λ d. is_object_at d h) false → (d : Directory)
+    → DenotesCurrent s.cut.bytes d → object_at d (names.ByHandle h) ≡ None
+no-object h a d k = none-if (object_at d (names.ByHandle h)) (a.answers d k)
+
+-- ---- the entry of an object, by its head
+
+own-class : {c : Class} (o : Object) → o.class ≡ c → (class_code c == class_code c) ≡ true → is_class c o ≡ true
+own-class {c} o e f = ap (λ b. class_code c == class_code b) e ∙ f
+
+by-own_handle : (d : Directory) {h : ℕ} {o : Object} → h ≡ handle o.extent → object_at d (names.ByHandle h) ≡ Some o
+    → object_at d (names.ByHandle (handle o.extent)) ≡ Some o
+by-own_handle d {o} e f = subst (λ g. object_at d (names.ByHandle g) ≡ Some o) e f
+
+-- the entry is looked up by this name
+abbrev pub IsNamed : Entry → List ℕ → Type 0
+IsNamed (entry.Name bytes) name = bytes.now ≡ name
+IsNamed (entry.Code n) name = ⊥
+
+module _ {s t : SegmentState} (view : s ≡ t) {h : ℕ} {head : Head} (a : AnswersWith t (λ d. is_object_at d h) true)
+    (r : IsReadAt s.cut.bytes h head) where
+  here-in : (d : Directory) → DenotesCurrent s.cut.bytes d → IsHere s.cut.bytes d (names.ByHandle h) h
+  here-in = object-here (seen-there view h a)
+
+  -- the object is anonymous
+  pub listed-none : head.class ≡ class.Anonymous → IsAnonymousAt t h
+  listed-none e = subst (λ (u : SegmentState). IsAnonymousAt u h) view (λ d k.
+      let o = here-in d k in
+      (o.object, o.is, sym (r o.object o.stands).class ∙ e))
+
+  -- the object has a name
+  pub listed-name : (e : Entry) → head.class ≡ class.Named
+      → ((o : Object) → IsObjectInBlock s.cut.bytes h o → IsNamed e o.name) → HasEntries t index.Named e h
+  listed-name (entry.Name bytes) e n =
+      subst (λ (u : SegmentState). HasEntries u index.Named (entry.Name bytes) h) view (λ d k.
+      let o = here-in d k in
+      record {
+        object = o.object;
+        is = o.is;
+        key = names.ByName o.object.name;
+        seeks = n o.object o.stands;
+        found = own-name k.denotes.directory (by-own_handle d o.stands.at o.is)
+            (own-class o.object (sym (r o.object o.stands).class ∙ e) refl);
+      })
+  listed-name (entry.Code n) e m = subst (λ (u : SegmentState). HasEntries u index.Named (entry.Code n) h) view
+      (λ d k. absurd (m (here-in d k).object (here-in d k).stands))
+
+  -- the object is unique
+  pub listed-kind : {n : ℕ} → head.class ≡ class.Unique → n ≡ code_of head.kind
+      → HasEntries t index.Unique (entry.Code n) h
+  listed-kind {n} e f = subst (λ (u : SegmentState). HasEntries u index.Unique (entry.Code n) h) view (λ d k.
+      let o = here-in d k in let said = r o.object o.stands in
+      record {
+        object = o.object;
+        is = o.is;
+        key = names.ByKind (kind_of o.object.value);
+        seeks = f ∙ ap code_of said.kind;
+        found = own-kind k.denotes.directory (by-own_handle d o.stands.at o.is)
+            (own-class o.object (sym said.class ∙ e) refl);
+      })
+
+-- an entry that an object has is found
+pub listed-found : {s t : SegmentState} (view : s ≡ t) (i : Index) (e : Entry) (h at : ℕ)
+    → ForIndex s.cut i (λ hs. FindsPosition (bytes_of s.cut.bytes) e hs (Absent at)) → HasEntries t i e h
+    → IsAnonymousAt t h
+listed-found {s} view i e h at f each = subst (λ (u : SegmentState). IsAnonymousAt u h) view (λ d k.
+    let x : HasIndexEntry i e d h = subst (λ (u : SegmentState). HasEntries u i e h) (sym view) each d k in
+    absurd (none-some x.object (sym (lookup-absent i s.cut e x.key k.denotes x.seeks
+    (of-directory s i (λ hs. FindsPosition (bytes_of s.cut.bytes) e hs (Absent at)) k f)).none ∙ x.found)))

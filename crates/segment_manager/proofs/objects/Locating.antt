@@ -1,17 +1,17 @@
 -- A located object: it is the key's object, and a command for its handle is the command for the key.
 use Rattle.segment_manager.proofs.Common as common
-use common.{◌≡◌, refl, sym, ap, subst, ◌∙◌, ℕ, ◌&&◌, Option, Some, None, Result, Ok, Err, if◌then◌else◌, option_map}
-use common.{same_Some, Kind, Refusal, NotFound, ReadOnly, WrongKind, same_kind, Key, ByHandle, Command, is_changing}
-use common.{Change, Clear, Reserve, Shrink, Located, Answer, kind_at, handle, sizes_of, Object, Directory, kind_of}
-use common.{live, object_at, handle_at, HasCapacity, UnchangedWhere, IsLocated, IsSegment, Plan, Refuse, perform, with}
-use common.{IsObjectInBlock, AnswersWith, AnswersQueryOfKind, TakesStep, TakesStepOfKind, LeadsOnOfKind, refusal_of}
-use common.{SegmentState, DenotesCurrent, effect, is_read_only, step, step_of_kind, HasEnough, command_of}
-use Rattle.segment_manager.specs.Laws.{HandlesMeanObjects, KeysMeanObjects, KeysOfKindMeanObjects, at_key}
 use Rattle.seg_types.specs.Commands as asked
-use Rattle.segment_manager.proofs.{containers.AnyStorage.of_kind-steps, indexes.Bridge.by-handle}
-use Rattle.segment_manager.proofs.{objects.Here.here, objects.Here.seen-handle, objects.Standings.alike}
-use Rattle.segment_manager.proofs.directory.CommandSteps.{moves-same}
+use Rattle.segment_manager.proofs.{containers.ItemSteps.of_kind-steps, directory.AnyDirectory.moves-same}
+use Rattle.segment_manager.proofs.{indexes.Bridge.by-handle, objects.Destroys.here, objects.Destroys.seen-handle}
+use Rattle.segment_manager.proofs.objects.Standings.{alike}
+use Rattle.segment_manager.specs.Laws.{HandlesMeanObjects, KeysMeanObjects, KeysOfKindMeanObjects, at_key}
 use Rattle.segment_manager.specs.objects.Located.{located, located_at}
+use common.{Answer, AnswersQueryOfKind, AnswersWith, ByHandle, Change, Clear, Command, DenotesCurrent, Directory, Err}
+use common.{HasCapacity, HasEnough, IsLocated, IsObjectInBlock, IsSegment, Key, Kind, LeadsOnOfKind, Located, None}
+use common.{NotFound, Object, Ok, Option, Plan, ReadOnly, Refusal, Refuse, Reserve, Result, SegmentState, Shrink, Some}
+use common.{TakesStep, TakesStepOfKind, UnchangedWhere, WrongKind, ap, command_of, effect, handle, handle_at}
+use common.{if◌then◌else◌, is_changing, is_read_only, kind_at, kind_of, live, object_at, option_map, perform, refl}
+use common.{refusal_of, same_Some, same_kind, sizes_of, step, step_of_kind, subst, sym, with, ℕ, ◌&&◌, ◌∙◌, ◌≡◌}
 
 -- ---- the object
 

@@ -1,7 +1,7 @@
 -- An object and one in its place among the others of a directory.
-use Rattle.segment_manager.proofs.Common.{◌≡◌, sym, List, [], ◌∷◌, IsTrue, AllByRecursion, Extent, LiveSet, handle}
-use Rattle.segment_manager.proofs.Common.{is_proper, Object, Directory, live, without_object}
-use Rattle.segment_manager.proofs.{directory.LiveSet.adding, directory.LiveSet.IsFound, directory.ExtentOrder.Differs}
+use Rattle.segment_manager.proofs.Common.{AllByRecursion, Directory, Extent, IsTrue, List, LiveSet, Object, [], handle}
+use Rattle.segment_manager.proofs.Common.{is_proper, live, sym, without_object, ◌∷◌, ◌≡◌}
+use Rattle.segment_manager.proofs.directory.LiveSet.{Differs, IsFound, adding}
 
 -- ---- one extent among others
 

@@ -11,7 +11,7 @@ use Rattle.seg_index.specs.{Growth.grown_bytes}
 use Rattle.seg_index.specs.declared.index.Index.TheVariants.{Named, Unique}
 use Rattle.seg_index.specs.declared.keys.Entry.TheVariants.{Name, Code}
 use Rattle.seg_index.specs.Held.{capacity_at, entry_count}
-use Rattle.segment_manager.specs.declared.blocks.requesting.Requested.{Requested}
+use Rattle.segment_manager.specs.declared.objects.pending_object.Requested.{Requested}
 
 -- ---- allocations
 

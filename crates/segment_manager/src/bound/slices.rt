@@ -1,27 +1,27 @@
-//! Arrays and vectors of scalars that were looked up once.
-ghost use Rattle.std.specs.{Prelude.◌≡◌, Prelude.◌+◌, Prelude.◌⊎◌, Prelude.IfErr, Prelude.IsTrue, Prelude.Ok};
-ghost use Rattle.std.specs.{Prelude.OnErr, Prelude.OnOk, Prelude.length, Prelude.map, Prelude.nat_le, List.list_all};
+//! Arrays and vectors of scalars: calls on a looked-up object, and calls by a key. A call by a key looks the object
+//! up, and then calls the function of `Array`, `ArrayMut`, `Vector` or `VectorMut`. An error of the look-up comes
+//! first, and changes nothing.
+ghost use Rattle.std.specs.List.{list_all};
+ghost use Rattle.std.specs.Prelude.{IfErr, IsTrue, Ok, OnErr, OnOk, false, length, map, nat_le, true, ◌+◌, ◌≡◌, ◌⊎◌};
 ghost use Rattle.best_fit.specs.Heap.{KeepsGaps};
-ghost use Rattle.seg_types.specs.declared.kinds.Kind.{Kind as AnyKind};
+ghost use Rattle.seg_types.specs.{Names.ByHandle, declared.refusals.Refusal.TheVariants.OutOfRange as PastTheEnd};
+ghost use Rattle.seg_types.specs.Commands.{Assign, Erase, Get, Insert, Pop, Push, Set, literal_of};
+ghost use Rattle.seg_types.specs.declared.kinds.{Kind.Kind as AnyKind, ScalarKind.ScalarKind as AnyScalarKind};
 ghost use Rattle.seg_types.specs.declared.kinds.Kind.TheVariants.{Scalar as ScalarOf, Vector as VectorOf};
-ghost use Rattle.seg_types.specs.declared.kinds.ScalarKind.{ScalarKind as AnyScalarKind};
 ghost use Rattle.seg_types.specs.declared.refusals.Refusal.TheVariants.{NoSpace as NoSpaceLeft};
-ghost use Rattle.seg_types.specs.declared.refusals.Refusal.TheVariants.{OutOfRange as PastTheEnd};
-ghost use Rattle.seg_types.specs.Commands.{Assign, Erase, Insert, Pop, Push, Set, literal_of};
-ghost use Rattle.segment_manager.specs.{Answers.Element, Keeping.ChangesElement, Keeping.KeepsUnused};
-ghost use Rattle.segment_manager.specs.containers.Contents.{sizes_at};
+ghost use Rattle.segment_manager.specs.{Answers.Done, Answers.Element, containers.Contents.sizes_at};
+ghost use Rattle.segment_manager.specs.{Keeping.ChangesElement, Keeping.KeepsUnused, objects.BoundSteps.StepsBound};
+ghost use Rattle.segment_manager.specs.State.{AnswersQueryOfKind, AnswersWith, TakesStepOfKind, answer_of, done_answer};
 ghost use Rattle.segment_manager.specs.containers.Ranges.{ChangesRange, ExtendsVector, WritesRange};
-ghost use Rattle.segment_manager.specs.objects.{BoundObjects.IsBound, BoundObjects.key_of, BoundSteps.StepsBound};
+ghost use Rattle.segment_manager.specs.objects.{BoundObjects.IsBound, BoundObjects.key_of, Found.is_object_at};
 ghost use Rattle.segment_manager.specs.objects.ElementLists.{element_of, numbers_at, whole_of};
-ghost use Rattle.segment_manager.specs.State.{AnswersWith, answer_of, done_answer};
 
-use crate::bound::{Bound, BoundContent, BoundMut};
-use crate::containers::fillings::LONGEST;
-use crate::objects::element::element;
-use crate::objects::object_ref::Object;
-use crate::segment::Segment;
+use crate::bound::{Bound, BoundContent, BoundMut, object_of_kind, of_kind};
+use crate::containers::fillings::{LONGEST, element};
+use crate::objects::object_ref::{Object, ObjectRef, locate};
+use crate::segment::{Result, Segment};
 use seg_types::theorems::{holds_value, scalar_is_number};
-use seg_types::{Kind, Refusal, Scalar, ScalarKind};
+use seg_types::{Handle, Kind, Refusal, Scalar, ScalarKind};
 use seg_vector::{SegVec, spell};
 use std::marker::PhantomData;
 
@@ -40,7 +40,7 @@ pub trait SliceStorage {
         ensures { AnswersWith segment.now (λ d. length (numbers_at d (key_of object) (kind T.kind))) result };
 
     /// Returns the element at `index`. The errors of `Bound::get` apply.
-    fn get<T: Scalar>(segment: &Segment, object: Object, index: u64) -> Result<T, Refusal>
+    fn get<T: Scalar>(segment: &Segment, object: Object, index: u64) -> Result<T>
         requires { IsBound (kind T.kind) object segment.now }
         ensures { AnswersWith segment.now (λ d. element_of (numbers_at d (key_of object) (kind T.kind)) index)
             (whole_of T.whole result) };
@@ -92,7 +92,7 @@ impl SliceStorage for Fixed {
     }
 
     #[inline(always)]
-    fn get<T: Scalar>(segment: &Segment, object: Object, index: u64) -> Result<T, Refusal> {
+    fn get<T: Scalar>(segment: &Segment, object: Object, index: u64) -> Result<T> {
         let place = object.element(T::kind(), index)?;
         scalar_is_number::<T>(element(&segment.heap, place.handle, place.at, T::SIZE)).ok_or(
             Refusal::WrongKind,
@@ -112,7 +112,7 @@ impl SliceStorage for Growable {
     }
 
     #[inline(always)]
-    fn get<T: Scalar>(segment: &Segment, object: Object, index: u64) -> Result<T, Refusal> {
+    fn get<T: Scalar>(segment: &Segment, object: Object, index: u64) -> Result<T> {
         SegVec::<T>::at(object.own_container()).get(&segment.heap, index)
     }
 }
@@ -136,7 +136,7 @@ impl<'a, T: Scalar, S: SliceStorage> Bound<'a, Slice<T, S>> {
     ///
     /// `OutOfRange` if `index` is not below the length.
     #[inline(always)]
-    pub fn get(&self, index: u64) -> Result<T, Refusal>
+    pub fn get(&self, index: u64) -> Result<T>
         ensures { AnswersWith self.now.segment.now (λ d.
             element_of (numbers_at d (key_of self.now.object) (S.kind T.kind)) index) (whole_of T.whole result) }
     {
@@ -155,7 +155,7 @@ impl<'a, T: Scalar> BoundMut<'a, Slice<T, Fixed>> {
     ///
     /// `OutOfRange` if `index` is not below the length. Nothing changes.
     #[inline(always)]
-    pub fn set(&mut self, index: u64, value: T) -> Result<(), Refusal>
+    pub fn set(&mut self, index: u64, value: T) -> Result<()>
         ensures unchanged { SameBound self.old self.new }
         ensures step { StepsBound self.old.object (ScalarOf T.kind) self.old.segment.now self.new.segment.now
             (λ key. Set key index (literal_of T.kind (T.whole value))) done_answer (λ why. why ≡ PastTheEnd) result }
@@ -179,7 +179,7 @@ impl<'a, T: Scalar> BoundMut<'a, Slice<T, Fixed>> {
     /// # Errors
     ///
     /// `OutOfRange` if there are too few elements from `first` on. Nothing changes.
-    pub fn overwrite(&mut self, first: u64, values: &[T]) -> Result<(), Refusal>
+    pub fn overwrite(&mut self, first: u64, values: &[T]) -> Result<()>
         ensures unchanged { SameBound self.old self.new }
         ensures step { WritesRange self.old.segment.now self.new.segment.now (key_of self.old.object) T.kind first
             (map T.whole values.now) (done_answer result) }
@@ -227,16 +227,15 @@ impl<'a, T: Scalar> BoundMut<'a, Slice<T, Growable>> {
     ///
     /// `OutOfRange` if `index` is not below the length. Nothing changes.
     #[inline(always)]
-    pub fn set(&mut self, index: u64, value: T) -> Result<(), Refusal>
+    pub fn set(&mut self, index: u64, value: T) -> Result<()>
         ensures unchanged { SameBound self.old self.new }
         ensures step { StepsBound self.old.object (VectorOf T.kind) self.old.segment.now self.new.segment.now
             (λ key. Set key index (literal_of T.kind (T.whole value))) done_answer (λ why. why ≡ PastTheEnd) result }
         ensures gaps { KeepsGaps self.old.segment.now.cut self.new.segment.now.cut }
     {
         holds_value(value);
-        let vector = SegVec::<T>::at(self.object.own_container());
         let segment = &mut *self.segment;
-        vector.set(&mut segment.heap, index, value)
+        SegVec::<T>::at(self.object.own_container()).set(&mut segment.heap, index, value)
     }
 
     /// Appends a value. A full vector first doubles its capacity, to at least 4.
@@ -247,16 +246,15 @@ impl<'a, T: Scalar> BoundMut<'a, Slice<T, Growable>> {
     ///
     /// `NoSpace` if the vector is full and its storage cannot be regrown. Nothing changes.
     #[inline(always)]
-    pub fn push(&mut self, value: T) -> Result<(), Refusal>
+    pub fn push(&mut self, value: T) -> Result<()>
         ensures unchanged { SameBound self.old self.new }
         ensures step { StepsBound self.old.object (VectorOf T.kind) self.old.segment.now self.new.segment.now
             (λ key. Push key (literal_of T.kind (T.whole value))) done_answer (λ why. why ≡ NoSpaceLeft) result }
         ensures gaps { KeepsUnused self.old.segment.now self.new.segment.now }
     {
         holds_value(value);
-        let vector = SegVec::<T>::at(self.object.own_container());
         let segment = &mut *self.segment;
-        vector.push(&mut segment.heap, value)
+        SegVec::<T>::at(self.object.own_container()).push(&mut segment.heap, value)
     }
 
     /// Removes the last element and returns it. The capacity stays.
@@ -267,15 +265,14 @@ impl<'a, T: Scalar> BoundMut<'a, Slice<T, Growable>> {
     ///
     /// `OutOfRange` if the vector is empty. Nothing changes.
     #[inline(always)]
-    pub fn pop(&mut self) -> Result<T, Refusal>
+    pub fn pop(&mut self) -> Result<T>
         ensures unchanged { SameBound self.old self.new }
         ensures step { StepsBound self.old.object (VectorOf T.kind) self.old.segment.now self.new.segment.now
             (λ key. Pop key) (answer_of (λ x. Element T.kind (T.whole x))) (λ why. why ≡ PastTheEnd) result }
         ensures gaps { KeepsGaps self.old.segment.now.cut self.new.segment.now.cut }
     {
-        let vector = SegVec::<T>::at(self.object.own_container());
         let segment = &mut *self.segment;
-        vector.pop(&mut segment.heap)
+        SegVec::<T>::at(self.object.own_container()).pop(&mut segment.heap)
     }
 
     /// Inserts a value before the element at `index`. The elements from there on move up. A full vector first doubles
@@ -288,7 +285,7 @@ impl<'a, T: Scalar> BoundMut<'a, Slice<T, Growable>> {
     /// `OutOfRange` if `index` is above the length. Otherwise `NoSpace` if the vector is full and its storage cannot be
     /// regrown. Nothing changes.
     #[inline(always)]
-    pub fn insert(&mut self, index: u64, value: T) -> Result<(), Refusal>
+    pub fn insert(&mut self, index: u64, value: T) -> Result<()>
         ensures unchanged { SameBound self.old self.new }
         ensures step { StepsBound self.old.object (VectorOf T.kind) self.old.segment.now self.new.segment.now
             (λ key. Insert key index (literal_of T.kind (T.whole value))) done_answer
@@ -296,9 +293,8 @@ impl<'a, T: Scalar> BoundMut<'a, Slice<T, Growable>> {
         ensures gaps { KeepsUnused self.old.segment.now self.new.segment.now }
     {
         holds_value(value);
-        let vector = SegVec::<T>::at(self.object.own_container());
         let segment = &mut *self.segment;
-        vector.insert(&mut segment.heap, index, value)
+        SegVec::<T>::at(self.object.own_container()).insert(&mut segment.heap, index, value)
     }
 
     /// Removes the element at `index`. The elements after it move down; the capacity stays.
@@ -309,15 +305,14 @@ impl<'a, T: Scalar> BoundMut<'a, Slice<T, Growable>> {
     ///
     /// `OutOfRange` if `index` is not below the length. Nothing changes.
     #[inline(always)]
-    pub fn erase(&mut self, index: u64) -> Result<(), Refusal>
+    pub fn erase(&mut self, index: u64) -> Result<()>
         ensures unchanged { SameBound self.old self.new }
         ensures step { StepsBound self.old.object (VectorOf T.kind) self.old.segment.now self.new.segment.now
             (λ key. Erase key index) done_answer (λ why. why ≡ PastTheEnd) result }
         ensures gaps { KeepsGaps self.old.segment.now.cut self.new.segment.now.cut }
     {
-        let vector = SegVec::<T>::at(self.object.own_container());
         let segment = &mut *self.segment;
-        vector.erase(&mut segment.heap, index)
+        SegVec::<T>::at(self.object.own_container()).erase(&mut segment.heap, index)
     }
 
     /// Replaces the elements. If the values do not fit, the capacity becomes their number.
@@ -328,7 +323,7 @@ impl<'a, T: Scalar> BoundMut<'a, Slice<T, Growable>> {
     ///
     /// `NoSpace` if its storage cannot be regrown. Nothing changes.
     #[inline(always)]
-    pub fn assign(&mut self, values: &[T]) -> Result<(), Refusal>
+    pub fn assign(&mut self, values: &[T]) -> Result<()>
         ensures unchanged { SameBound self.old self.new }
         ensures step { StepsBound self.old.object (VectorOf T.kind) self.old.segment.now self.new.segment.now
             (λ key. Assign key (map (literal_of T.kind) (map T.whole values.now))) done_answer
@@ -336,9 +331,8 @@ impl<'a, T: Scalar> BoundMut<'a, Slice<T, Growable>> {
         ensures gaps { KeepsUnused self.old.segment.now self.new.segment.now }
     {
         judge_all(values);
-        let vector = SegVec::<T>::at(self.object.own_container());
         let segment = &mut *self.segment;
-        vector.assign(&mut segment.heap, values)
+        SegVec::<T>::at(self.object.own_container()).assign(&mut segment.heap, values)
     }
 
     /// Replaces the elements from `first` on, all of them or none. Without values nothing changes.
@@ -348,7 +342,7 @@ impl<'a, T: Scalar> BoundMut<'a, Slice<T, Growable>> {
     /// # Errors
     ///
     /// `OutOfRange` if there are too few elements from `first` on. Nothing changes.
-    pub fn overwrite(&mut self, first: u64, values: &[T]) -> Result<(), Refusal>
+    pub fn overwrite(&mut self, first: u64, values: &[T]) -> Result<()>
         ensures unchanged { SameBound self.old self.new }
         ensures step { WritesRange self.old.segment.now self.new.segment.now (key_of self.old.object) T.kind first
             (map T.whole values.now) (done_answer result) }
@@ -356,9 +350,8 @@ impl<'a, T: Scalar> BoundMut<'a, Slice<T, Growable>> {
         ensures noop { length values.now ≡ 0 → self.new.segment.now ≡ self.old.segment.now }
         ensures gaps { KeepsGaps self.old.segment.now.cut self.new.segment.now.cut }
     {
-        let vector = SegVec::<T>::at(self.object.own_container());
         let segment = &mut *self.segment;
-        vector.overwrite(&mut segment.heap, first, values)
+        SegVec::<T>::at(self.object.own_container()).overwrite(&mut segment.heap, first, values)
     }
 
     /// Appends values. If the capacity is too small, it doubles, to at least 4 and at least the new length.
@@ -369,7 +362,7 @@ impl<'a, T: Scalar> BoundMut<'a, Slice<T, Growable>> {
     ///
     /// `NoSpace` if its storage cannot be regrown. Nothing changes.
     #[inline(always)]
-    pub fn extend(&mut self, values: &[T]) -> Result<(), Refusal>
+    pub fn extend(&mut self, values: &[T]) -> Result<()>
         ensures unchanged { SameBound self.old self.new }
         ensures step { ExtendsVector self.old.segment.now self.new.segment.now (key_of self.old.object) T.kind
             (map T.whole values.now) (done_answer result) }
@@ -377,9 +370,8 @@ impl<'a, T: Scalar> BoundMut<'a, Slice<T, Growable>> {
         ensures error { IfErr result (λ why. why ≡ NoSpaceLeft) }
         ensures gaps { KeepsUnused self.old.segment.now self.new.segment.now }
     {
-        let vector = SegVec::<T>::at(self.object.own_container());
         let segment = &mut *self.segment;
-        vector.extend(&mut segment.heap, values)
+        SegVec::<T>::at(self.object.own_container()).extend(&mut segment.heap, values)
     }
 }
 
@@ -396,5 +388,196 @@ fn judge_all<T: Scalar>(values: &[T])
 {
     for value in values {
         holds_value(*value);
+    }
+}
+
+impl Segment {
+    /// As [`Array::get`] on the array of a key. Also `NotFound`, `WrongKind`.
+    ///
+    /// Example: `let width: i64 = segment.get(&name, 0)?`.
+    pub fn get<T: Scalar, O: ObjectRef>(&self, key: &O, index: u64) -> Result<T>
+        ensures { AnswersQueryOfKind self.now (O.key key.now) (ScalarOf T.kind) (Get (O.key key.now) index)
+            (answer_of (λ x. Element T.kind (T.whole x)) result) }
+    {
+        Array::<T>::of(self, key)?.get(index)
+    }
+
+    /// As [`ArrayMut::set`] on the array of a key. Also `ReadOnly`, `NotFound`, `WrongKind`.
+    ///
+    /// Example: `segment.set(&name, 0, 640i64)?`.
+    pub fn set<T: Scalar, O: ObjectRef>(&mut self, key: &O, index: u64, value: T) -> Result<()>
+        ensures step { TakesStepOfKind self.old self.new (O.key key.now) (ScalarOf T.kind)
+            (Set (O.key key.now) index (literal_of T.kind (T.whole value))) (done_answer result) }
+        ensures refused { OnErr result (self.new ≡ self.old) }
+        ensures element { OnOk result (ChangesElement self.old self.new (O.key key.now) T.kind index) }
+    {
+        ArrayMut::<T>::of(self, key)?.set(index, value)
+    }
+
+    /// As [`Vector::get`] on the vector of a key. Also `NotFound`, `WrongKind`.
+    ///
+    /// Example: `let number: i64 = segment.vec_get(&name, 0)?`.
+    pub fn vec_get<T: Scalar, O: ObjectRef>(&self, key: &O, index: u64) -> Result<T>
+        ensures { AnswersQueryOfKind self.now (O.key key.now) (VectorOf T.kind)
+            (Get (O.key key.now) index) (answer_of (λ x. Element T.kind (T.whole x)) result) }
+    {
+        Vector::<T>::of(self, key)?.get(index)
+    }
+
+    /// As [`VectorMut::set`] on the vector of a key. Also `ReadOnly`, `NotFound`, `WrongKind`.
+    ///
+    /// Example: `segment.vec_set(&name, 1, 5i64)?`.
+    pub fn vec_set<T: Scalar, O: ObjectRef>(&mut self, key: &O, index: u64, value: T) -> Result<()>
+        ensures step { TakesStepOfKind self.old self.new (O.key key.now) (VectorOf T.kind)
+            (Set (O.key key.now) index (literal_of T.kind (T.whole value))) (done_answer result) }
+        ensures refused { OnErr result (self.new ≡ self.old) }
+        ensures gaps { KeepsGaps self.old.cut self.new.cut }
+    {
+        VectorMut::<T>::of(self, key)?.set(index, value)
+    }
+
+    /// As [`VectorMut::push`] on the vector of a key. Also `ReadOnly`, `NotFound`, `WrongKind`.
+    ///
+    /// Example: `segment.vec_push(&name, 4i64)?`.
+    pub fn vec_push<T: Scalar, O: ObjectRef>(&mut self, key: &O, value: T) -> Result<()>
+        ensures step { TakesStepOfKind self.old self.new (O.key key.now) (VectorOf T.kind)
+            (Push (O.key key.now) (literal_of T.kind (T.whole value))) (done_answer result) }
+        ensures refused { OnErr result (self.new ≡ self.old) }
+        ensures gaps { KeepsUnused self.old self.new }
+    {
+        VectorMut::<T>::of(self, key)?.push(value)
+    }
+
+    /// As [`VectorMut::assign`] on the vector of a key. Also `ReadOnly`, `NotFound`, `WrongKind`.
+    ///
+    /// Example: `segment.vec_assign(&name, &[6i64, 7])?`.
+    pub fn vec_assign<T: Scalar, O: ObjectRef>(&mut self, key: &O, values: &[T]) -> Result<()>
+        ensures step { TakesStepOfKind self.old self.new (O.key key.now) (VectorOf T.kind)
+            (Assign (O.key key.now) (map (literal_of T.kind) (map T.whole values.now))) (done_answer result) }
+        ensures refused { OnErr result (self.new ≡ self.old) }
+        ensures gaps { KeepsUnused self.old self.new }
+    {
+        VectorMut::<T>::of(self, key)?.assign(values)
+    }
+
+    /// As [`VectorMut::extend`] on the vector of a key. Also `ReadOnly`, `NotFound`, `WrongKind`.
+    ///
+    /// Example: `segment.vec_extend(&name, &[6i64, 7])?`.
+    pub fn vec_extend<T: Scalar, O: ObjectRef>(&mut self, key: &O, values: &[T]) -> Result<()>
+        ensures step { ExtendsVector self.old self.new (O.key key.now) T.kind (map T.whole values.now)
+            (done_answer result) }
+        ensures refused { OnErr result (self.new ≡ self.old) }
+        ensures gaps { KeepsUnused self.old self.new }
+    {
+        VectorMut::<T>::of(self, key)?.extend(values)
+    }
+
+    /// As [`VectorMut::pop`] on the vector of a key. Also `ReadOnly`, `NotFound`, `WrongKind`.
+    ///
+    /// Example: `let last: i64 = segment.vec_pop(&name)?`.
+    pub fn vec_pop<T: Scalar, O: ObjectRef>(&mut self, key: &O) -> Result<T>
+        ensures step { TakesStepOfKind self.old self.new (O.key key.now) (VectorOf T.kind)
+            (Pop (O.key key.now)) (answer_of (λ x. Element T.kind (T.whole x)) result) }
+        ensures refused { OnErr result (self.new ≡ self.old) }
+        ensures gaps { KeepsGaps self.old.cut self.new.cut }
+    {
+        VectorMut::<T>::of(self, key)?.pop()
+    }
+
+    /// As [`VectorMut::insert`] on the vector of a key. Also `ReadOnly`, `NotFound`, `WrongKind`.
+    ///
+    /// Example: `segment.vec_insert(&name, 0, 3i64)?`.
+    pub fn vec_insert<T: Scalar, O: ObjectRef>(
+        &mut self,
+        key: &O,
+        index: u64,
+        value: T,
+    ) -> Result<()>
+        ensures step { TakesStepOfKind self.old self.new (O.key key.now) (VectorOf T.kind)
+            (Insert (O.key key.now) index (literal_of T.kind (T.whole value))) (done_answer result) }
+        ensures refused { OnErr result (self.new ≡ self.old) }
+        ensures gaps { KeepsUnused self.old self.new }
+    {
+        VectorMut::<T>::of(self, key)?.insert(index, value)
+    }
+
+    /// As [`VectorMut::erase`] on the vector of a key. Also `ReadOnly`, `NotFound`, `WrongKind`.
+    ///
+    /// Example: `segment.vec_erase::<i64, _>(&name, 0)?`.
+    pub fn vec_erase<T: Scalar, O: ObjectRef>(&mut self, key: &O, index: u64) -> Result<()>
+        ensures step { TakesStepOfKind self.old self.new (O.key key.now) (VectorOf T.kind)
+            (Erase (O.key key.now) index) (done_answer result) }
+        ensures refused { OnErr result (self.new ≡ self.old) }
+        ensures gaps { KeepsGaps self.old.cut self.new.cut }
+    {
+        VectorMut::<T>::of(self, key)?.erase(index)
+    }
+
+    /// Replaces the elements from `first` on by these values. The object is an array or a vector of scalars of the
+    /// type. It is looked up once, and all values are copied at once. In an array no other byte changes; without values
+    /// nothing changes.
+    ///
+    /// Example: `segment.write_range(&name, 2, &[6i64, 7])?`.
+    ///
+    /// # Errors
+    ///
+    /// `ReadOnly` if the segment is open for reading. Otherwise `NotFound` if no object has the key, `WrongKind` if the
+    /// object has another kind, `OutOfRange` if it has too few elements from `first` on. Nothing changes.
+    pub fn write_range<T: Scalar, O: ObjectRef>(
+        &mut self,
+        key: &O,
+        first: u64,
+        values: &[T],
+    ) -> Result<()>
+        ensures step { WritesRange self.old self.new (O.key key.now) T.kind first (map T.whole values.now)
+            (done_answer result) }
+        ensures refused { OnErr result (self.new ≡ self.old) }
+        ensures noop { length values.now ≡ 0 → self.new ≡ self.old }
+        ensures frame { OnOk result (ChangesRange self.old self.new (O.key key.now) T.kind first (length values.now)) }
+        ensures gaps { KeepsGaps self.old.cut self.new.cut }
+    {
+        if self.is_read_only() {
+            return Err(Refusal::ReadOnly);
+        }
+        let object = locate(self, key)?;
+        if let Ok(vector) = of_kind(object, Kind::Vector(T::kind())) {
+            return VectorMut::<T>::at(self, vector).overwrite(first, values);
+        }
+        let array = of_kind(object, Kind::Scalar(T::kind()))?;
+        ArrayMut::<T>::at(self, array).overwrite(first, values)
+    }
+}
+
+/// Appends a value to the vector with a handle, and returns true, if the segment may be written, the vector's type
+/// matches and its capacity has room. Otherwise nothing changes, and it returns false; `vec_push` then says why, or
+/// lengthens the storage.
+///
+/// Example: `let was_pushed = push_within(&mut segment, handle, 4i64)`.
+///
+/// # Conditions
+///
+/// An object of the segment has the handle. `vec_push` has no condition.
+#[inline(always)]
+pub fn push_within<T: Scalar>(segment: &mut Segment, handle: Handle, value: T) -> bool
+    requires { AnswersWith segment.old (λ d. is_object_at d handle) true }
+    ensures step { result ≡ true → TakesStepOfKind segment.old segment.new (ByHandle handle) (VectorOf T.kind)
+        (Push (ByHandle handle) (literal_of T.kind (T.whole value))) Done }
+    ensures refused { result ≡ false → segment.new ≡ segment.old }
+{
+    if segment.is_read_only() {
+        return false;
+    }
+    let Ok(object) = object_of_kind(segment, handle, Kind::Vector(T::kind())) else {
+        return false;
+    };
+    let mut vector = VectorMut::<T>::at(segment, object);
+    let (len, capacity) = vector.read().measure();
+    if len >= capacity {
+        return false;
+    }
+    // the push makes the same test, so nothing is compiled of what it does where there is no room
+    match vector.push(value) {
+        Ok(()) => true,
+        Err(_) => false,
     }
 }

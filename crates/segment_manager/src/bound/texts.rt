@@ -1,21 +1,25 @@
-//! Strings and vectors of strings that were looked up once.
+//! Strings and vectors of strings: calls on a looked-up object, and calls by a key. A call by a key looks the object
+//! up, and then calls the function of `StringRef`, `StringMut`, `Strings` or `StringsMut`. An error of the look-up
+//! comes first, and changes nothing.
 ghost use Rattle.std.specs.List.{list_all};
-ghost use Rattle.std.specs.Prelude.{◌∷◌, ◌≡◌, ◌⊎◌, IfErr, IsTrue, Ok, OnErr, [], length, map, pos};
+ghost use Rattle.std.specs.Prelude.{Err, IfErr, IsTrue, MatchResult, Ok, OnErr, [], length, map, pos, ◌∷◌, ◌≡◌, ◌⊎◌};
 ghost use Rattle.raw_region.specs.Memory.{are_bytes};
 ghost use Rattle.best_fit.specs.Heap.{KeepsGaps};
 ghost use Rattle.seg_types.specs.Commands.{Append, Assign, Erase, Get, Insert, Pop, Push, Quoted, Set, literal_of};
 ghost use Rattle.seg_types.specs.declared.kinds.Kind.TheVariants.{String as StringKind, Strings as StringsKind};
 ghost use Rattle.seg_types.specs.declared.kinds.ScalarKind.TheVariants.{U8 as ByteKind};
 ghost use Rattle.seg_types.specs.declared.refusals.Refusal.TheVariants.{NoSpace as NoSpaceLeft, OutOfRange as PastEnd};
+ghost use Rattle.segment_manager.specs.{Answers.TextElement, containers.Contents.bytes_at, objects.BoundObjects.key_of};
+ghost use Rattle.segment_manager.specs.{containers.TextLists.LeadsOnOfKind, objects.ElementLists.length_at_kind};
 ghost use Rattle.segment_manager.specs.Keeping.{KeepsUnused, LacksArray, LacksFirst, UnchangedWhere};
 ghost use Rattle.segment_manager.specs.State.{AnswersQueryOfKind, AnswersWith, TakesStepOfKind, UnchangedIfRefused};
-ghost use Rattle.segment_manager.specs.{Answers.TextElement, State.answer_of, State.done_answer, State.refusal_in};
-ghost use Rattle.segment_manager.specs.{containers.Contents.bytes_at, objects.BoundObjects.key_of};
-ghost use Rattle.segment_manager.specs.{containers.TextLists.LeadsOnOfKind, objects.ElementLists.length_at_kind};
+ghost use Rattle.segment_manager.specs.State.{answer_of, done_answer, refusal_in};
 
 use crate::bound::{Bound, BoundContent, BoundMut};
+use crate::objects::object_ref::ObjectRef;
+use crate::segment::{Result, Segment};
 use raw_region::bytes_are_octets;
-use seg_types::{Kind, Refusal};
+use seg_types::Kind;
 use seg_vector::{SegString, SegTexts};
 
 /// The bytes of a string.
@@ -57,7 +61,7 @@ impl<'a> BoundMut<'a, StringBytes> {
     ///
     /// `OutOfRange` if `index` is not below the length. Nothing changes.
     #[inline(always)]
-    pub fn set(&mut self, index: u64, byte: u8) -> Result<(), Refusal>
+    pub fn set(&mut self, index: u64, byte: u8) -> Result<()>
         ensures unchanged { SameBound self.old self.new }
         ensures step { TakesStepOfKind self.old.segment.now self.new.segment.now (key_of self.old.object) StringKind
             (Set (key_of self.old.object) index (literal_of ByteKind (pos byte))) (done_answer result) }
@@ -76,7 +80,7 @@ impl<'a> BoundMut<'a, StringBytes> {
     ///
     /// `NoSpace` if the storage cannot be regrown. Nothing changes.
     #[inline(always)]
-    pub fn append(&mut self, bytes: &[u8]) -> Result<(), Refusal>
+    pub fn append(&mut self, bytes: &[u8]) -> Result<()>
         ensures unchanged { SameBound self.old self.new }
         ensures step { TakesStepOfKind self.old.segment.now self.new.segment.now (key_of self.old.object) StringKind
             (Append (key_of self.old.object) bytes.now) (done_answer result) }
@@ -95,7 +99,7 @@ impl<'a> BoundMut<'a, StringBytes> {
     ///
     /// `NoSpace` if the storage cannot be regrown. Nothing changes.
     #[inline(always)]
-    pub fn assign(&mut self, bytes: &[u8]) -> Result<(), Refusal>
+    pub fn assign(&mut self, bytes: &[u8]) -> Result<()>
         ensures unchanged { SameBound self.old self.new }
         ensures step { TakesStepOfKind self.old.segment.now self.new.segment.now (key_of self.old.object) StringKind
             (Assign (key_of self.old.object) (Quoted bytes.now ∷ [])) (done_answer result) }
@@ -134,7 +138,7 @@ impl<'a> Bound<'a, Texts> {
     ///
     /// `OutOfRange` if `index` is not below the length.
     #[inline(always)]
-    pub fn get(&self, index: u64) -> Result<&'a [u8], Refusal>
+    pub fn get(&self, index: u64) -> Result<&'a [u8]>
         ensures reply { AnswersQueryOfKind self.now.segment.now (key_of self.now.object) StringsKind
             (Get (key_of self.now.object) index) (answer_of (λ text. TextElement text.now) result) }
         ensures error { IfErr result (λ why. why ≡ PastEnd) }
@@ -164,7 +168,7 @@ impl<'a> BoundMut<'a, Texts> {
     ///
     /// `OutOfRange` if `index` is not below the length; else `NoSpace` if no gap fits the text. Nothing changes.
     #[inline(always)]
-    pub fn set(&mut self, index: u64, text: &[u8]) -> Result<(), Refusal>
+    pub fn set(&mut self, index: u64, text: &[u8]) -> Result<()>
         ensures unchanged { SameBound self.old self.new }
         ensures step { TakesStepOfKind self.old.segment.now self.new.segment.now (key_of self.old.object) StringsKind
             (Set (key_of self.old.object) index (Quoted text.now)) (done_answer result) }
@@ -183,7 +187,7 @@ impl<'a> BoundMut<'a, Texts> {
     /// `NoSpace` if the vector is full and its array cannot be regrown, or if no gap is long enough for the text. All
     /// objects and blocks are then unchanged; bytes of gaps can change if an array was allocated.
     #[inline(always)]
-    pub fn push(&mut self, text: &[u8]) -> Result<(), Refusal>
+    pub fn push(&mut self, text: &[u8]) -> Result<()>
         ensures unchanged { SameBound self.old self.new }
         ensures step { TakesStepOfKind self.old.segment.now self.new.segment.now (key_of self.old.object) StringsKind
             (Push (key_of self.old.object) (Quoted text.now)) (done_answer result) }
@@ -205,7 +209,7 @@ impl<'a> BoundMut<'a, Texts> {
     /// `NoSpace` if no gap is long enough for the array or a text. All objects and blocks are then unchanged; bytes of
     /// gaps can change if an array was allocated.
     #[inline(always)]
-    pub fn assign(&mut self, texts: &[&[u8]]) -> Result<(), Refusal>
+    pub fn assign(&mut self, texts: &[&[u8]]) -> Result<()>
         ensures unchanged { SameBound self.old self.new }
         ensures step { TakesStepOfKind self.old.segment.now self.new.segment.now (key_of self.old.object) StringsKind
             (Assign (key_of self.old.object) (map Quoted (map (λ text. text.now) texts.now))) (done_answer result) }
@@ -225,7 +229,7 @@ impl<'a> BoundMut<'a, Texts> {
     ///
     /// `OutOfRange` if the vector is empty. Nothing changes.
     #[inline(always)]
-    pub fn pop(&mut self) -> Result<(), Refusal>
+    pub fn pop(&mut self) -> Result<()>
         ensures unchanged { SameBound self.old self.new }
         ensures step { LeadsOnOfKind self.old.segment.now self.new.segment.now (key_of self.old.object) StringsKind
             (Pop (key_of self.old.object)) (refusal_in result) }
@@ -244,7 +248,7 @@ impl<'a> BoundMut<'a, Texts> {
     ///
     /// `OutOfRange` if `index` is above the length, and nothing changes. Otherwise as `push`.
     #[inline(always)]
-    pub fn insert(&mut self, index: u64, text: &[u8]) -> Result<(), Refusal>
+    pub fn insert(&mut self, index: u64, text: &[u8]) -> Result<()>
         ensures unchanged { SameBound self.old self.new }
         ensures step { TakesStepOfKind self.old.segment.now self.new.segment.now (key_of self.old.object) StringsKind
             (Insert (key_of self.old.object) index (Quoted text.now)) (done_answer result) }
@@ -264,7 +268,7 @@ impl<'a> BoundMut<'a, Texts> {
     ///
     /// `OutOfRange` if `index` is not below the length. Nothing changes.
     #[inline(always)]
-    pub fn erase(&mut self, index: u64) -> Result<(), Refusal>
+    pub fn erase(&mut self, index: u64) -> Result<()>
         ensures unchanged { SameBound self.old self.new }
         ensures step { TakesStepOfKind self.old.segment.now self.new.segment.now (key_of self.old.object) StringsKind
             (Erase (key_of self.old.object) index) (done_answer result) }
@@ -283,5 +287,132 @@ pub(crate) fn judge_all(texts: &[&[u8]])
 {
     for text in texts {
         bytes_are_octets(text);
+    }
+}
+
+impl Segment {
+    /// As [`StringRef::as_bytes`] on the string of a key. Also `NotFound`, `WrongKind`.
+    ///
+    /// Example: `let bytes = segment.string_bytes(&name)?`.
+    pub fn string_bytes<O: ObjectRef>(&self, key: &O) -> Result<&[u8]>
+        ensures { MatchResult result (λ bytes. AnswersWith self.now (λ d. bytes_at d (O.key key.now)) (Ok bytes.now))
+            (λ why. AnswersWith self.now (λ d. bytes_at d (O.key key.now)) (Err why)) }
+    {
+        Ok(StringRef::of(self, key)?.as_bytes())
+    }
+
+    /// As [`StringMut::set`] on the string of a key. Also `ReadOnly`, `NotFound`, `WrongKind`.
+    ///
+    /// Example: `segment.string_set(&name, 0, b'R')?`.
+    pub fn string_set<O: ObjectRef>(&mut self, key: &O, index: u64, byte: u8) -> Result<()>
+        ensures step { TakesStepOfKind self.old self.new (O.key key.now) StringKind
+            (Set (O.key key.now) index (literal_of ByteKind (pos byte))) (done_answer result) }
+        ensures refused { OnErr result (self.new ≡ self.old) }
+        ensures gaps { KeepsGaps self.old.cut self.new.cut }
+    {
+        StringMut::of(self, key)?.set(index, byte)
+    }
+
+    /// As [`StringMut::append`] on the string of a key. Also `ReadOnly`, `NotFound`, `WrongKind`.
+    ///
+    /// Example: `segment.string_append(&name, b"-black")?`.
+    pub fn string_append<O: ObjectRef>(&mut self, key: &O, bytes: &[u8]) -> Result<()>
+        ensures step { TakesStepOfKind self.old self.new (O.key key.now) StringKind
+            (Append (O.key key.now) bytes.now) (done_answer result) }
+        ensures refused { OnErr result (self.new ≡ self.old) }
+        ensures gaps { KeepsUnused self.old self.new }
+    {
+        StringMut::of(self, key)?.append(bytes)
+    }
+
+    /// As [`StringMut::assign`] on the string of a key. Also `ReadOnly`, `NotFound`, `WrongKind`.
+    ///
+    /// Example: `segment.string_assign(&name, b"splay")?`.
+    pub fn string_assign<O: ObjectRef>(&mut self, key: &O, bytes: &[u8]) -> Result<()>
+        ensures step { TakesStepOfKind self.old self.new (O.key key.now) StringKind
+            (Assign (O.key key.now) (Quoted bytes.now ∷ [])) (done_answer result) }
+        ensures refused { OnErr result (self.new ≡ self.old) }
+        ensures gaps { KeepsUnused self.old self.new }
+    {
+        StringMut::of(self, key)?.assign(bytes)
+    }
+
+    /// As [`Strings::get`] on the vector of strings of a key. Also `NotFound`, `WrongKind`.
+    ///
+    /// Example: `let text = segment.texts_get(&name, 0)?`.
+    pub fn texts_get<O: ObjectRef>(&self, key: &O, index: u64) -> Result<&[u8]>
+        ensures { AnswersQueryOfKind self.now (O.key key.now) StringsKind
+            (Get (O.key key.now) index) (answer_of (λ text. TextElement text.now) result) }
+    {
+        Strings::of(self, key)?.get(index)
+    }
+
+    /// As [`StringsMut::set`] on the vector of strings of a key. Also `ReadOnly`, `NotFound`, `WrongKind`.
+    ///
+    /// Example: `segment.texts_set(&name, 0, b"plums")?`.
+    pub fn texts_set<O: ObjectRef>(&mut self, key: &O, index: u64, text: &[u8]) -> Result<()>
+        ensures step { TakesStepOfKind self.old self.new (O.key key.now) StringsKind
+            (Set (O.key key.now) index (Quoted text.now)) (done_answer result) }
+        ensures refused { OnErr result (self.new ≡ self.old) }
+    {
+        StringsMut::of(self, key)?.set(index, text)
+    }
+
+    /// As [`StringsMut::push`] on the vector of strings of a key. Also `ReadOnly`, `NotFound`, `WrongKind`.
+    ///
+    /// Example: `segment.texts_push(&name, b"plums")?`.
+    pub fn texts_push<O: ObjectRef>(&mut self, key: &O, text: &[u8]) -> Result<()>
+        ensures step { TakesStepOfKind self.old self.new (O.key key.now) StringsKind
+            (Push (O.key key.now) (Quoted text.now)) (done_answer result) }
+        ensures refused { UnchangedIfRefused self.old self.new result }
+        ensures first { UnchangedWhere self.old self.new (LacksFirst (O.key key.now) text.now) }
+    {
+        StringsMut::of(self, key)?.push(text)
+    }
+
+    /// As [`StringsMut::assign`] on the vector of strings of a key. Also `ReadOnly`, `NotFound`, `WrongKind`.
+    ///
+    /// Example: `segment.texts_assign(&name, &[b"apples", b"pears"])?`.
+    pub fn texts_assign<O: ObjectRef>(&mut self, key: &O, texts: &[&[u8]]) -> Result<()>
+        ensures step { TakesStepOfKind self.old self.new (O.key key.now) StringsKind
+            (Assign (O.key key.now) (map Quoted (map (λ text. text.now) texts.now))) (done_answer result) }
+        ensures refused { UnchangedIfRefused self.old self.new result }
+        ensures first { UnchangedWhere self.old self.new (LacksArray (length texts.now)) }
+    {
+        StringsMut::of(self, key)?.assign(texts)
+    }
+
+    /// As [`StringsMut::pop`] on the vector of strings of a key. Also `ReadOnly`, `NotFound`, `WrongKind`.
+    ///
+    /// Example: `segment.texts_pop(&name)?`.
+    pub fn texts_pop<O: ObjectRef>(&mut self, key: &O) -> Result<()>
+        ensures step { LeadsOnOfKind self.old self.new (O.key key.now) StringsKind (Pop (O.key key.now))
+            (refusal_in result) }
+        ensures refused { OnErr result (self.new ≡ self.old) }
+    {
+        StringsMut::of(self, key)?.pop()
+    }
+
+    /// As [`StringsMut::insert`] on the vector of strings of a key. Also `ReadOnly`, `NotFound`, `WrongKind`.
+    ///
+    /// Example: `segment.texts_insert(&name, 0, b"plums")?`.
+    pub fn texts_insert<O: ObjectRef>(&mut self, key: &O, index: u64, text: &[u8]) -> Result<()>
+        ensures step { TakesStepOfKind self.old self.new (O.key key.now) StringsKind
+            (Insert (O.key key.now) index (Quoted text.now)) (done_answer result) }
+        ensures refused { UnchangedIfRefused self.old self.new result }
+        ensures first { UnchangedWhere self.old self.new (LacksFirst (O.key key.now) text.now) }
+    {
+        StringsMut::of(self, key)?.insert(index, text)
+    }
+
+    /// As [`StringsMut::erase`] on the vector of strings of a key. Also `ReadOnly`, `NotFound`, `WrongKind`.
+    ///
+    /// Example: `segment.texts_erase(&name, 0)?`.
+    pub fn texts_erase<O: ObjectRef>(&mut self, key: &O, index: u64) -> Result<()>
+        ensures step { TakesStepOfKind self.old self.new (O.key key.now) StringsKind
+            (Erase (O.key key.now) index) (done_answer result) }
+        ensures refused { OnErr result (self.new ≡ self.old) }
+    {
+        StringsMut::of(self, key)?.erase(index)
     }
 }

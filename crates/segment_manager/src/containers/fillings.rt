@@ -1,14 +1,14 @@
-//! The initial contents of new objects: numbers, or a container with its elements in blocks of its own.
-ghost use Rattle.std.specs.Prelude.{◌≡◌, ◌+◌, ◌%◌, ◌≤◌, ⊤, IsTrue, map, replicate};
-ghost use Rattle.raw_region.specs.Format.{current};
-ghost use Rattle.best_fit.specs.Heap.{IsHeap, has_room, live_of};
+//! The initial contents of new objects: numbers, or a container with its elements in blocks of its own. Elements of
+//! arrays are encoded and read as bytes.
+ghost use Rattle.std.specs.Prelude.{IsTrue, length, map, replicate, ⊤, ◌%◌, ◌*◌, ◌+◌, ◌≡◌, ◌≤◌};
+ghost use Rattle.raw_region.specs.{Format.current, Memory.HasBytesAt, Memory.bytes_of, Memory.read};
+ghost use Rattle.best_fit.specs.Heap.{ChangesBytes, IsHeap, has_room, live_of};
 ghost use Rattle.seg_types.specs.Commands.{Bytes, Content, Elements, NoPairs, Numbers, Strings};
-ghost use Rattle.segment_manager.specs.{Directory.value_len, Plan.bare};
+ghost use Rattle.segment_manager.specs.{Directory.value_len, Plan.bare, objects.Standing.repeated};
 ghost use Rattle.segment_manager.specs.containers.Filled.{IsShapeOf, MakesValue, container_shape, numbers_shape};
 
 use crate::bound::texts::judge_all;
 use crate::layout::CONTAINER_LEN;
-use crate::objects::element::write_elements;
 use best_fit::Heap;
 use raw_region::bytes_are_octets;
 use seg_map::SegMap;
@@ -209,4 +209,28 @@ fn container(kind: Kind) -> ObjectShape
         count: 1,
         len: CONTAINER_LEN,
     }
+}
+
+/// Writes `count` copies of the same bytes, from `at` on in a block.
+pub(crate) fn write_elements(heap: &mut Heap, handle: u64, at: u64, count: u32, bytes: &[u8])
+    requires heap { IsHeap current heap.old.bytes }
+    requires room { IsTrue (has_room (live_of heap.old.bytes) handle (at + length bytes.now * count)) }
+    ensures changes { ChangesBytes current heap.old heap.new (handle + at) (length bytes.now * count) }
+    ensures content { HasBytesAt (bytes_of heap.new.bytes) (handle + at) (repeated count bytes.now) }
+{
+    let len = bytes.len() as u64;
+    for i in 0..u64::from(count) {
+        heap.write(handle, at + len * i, bytes);
+    }
+}
+
+/// Returns the `size` bytes at `at` in a block.
+pub(crate) fn element(heap: &Heap, handle: u64, at: u64, size: u64) -> &[u8]
+    requires heap { IsHeap current heap.now.bytes }
+    requires room { IsTrue (has_room (live_of heap.now.bytes) handle (at + size)) }
+    ensures bytes { result.now ≡ read (bytes_of heap.now.bytes) (handle + at) size }
+    ensures len { length result.now ≡ size }
+{
+    let payload = heap.block(handle);
+    &payload[at as usize..(at + size) as usize]
 }

@@ -1,17 +1,23 @@
-//! Constructs objects of any contents, and arrays with several copies of one number.
-ghost use Rattle.std.specs.Prelude.{◌≡◌, ◌≤◌, true};
-ghost use Rattle.seg_types.specs.declared.kinds.Kind.TheVariants.{Scalar as ScalarOf};
+//! Constructs objects of any contents: arrays with several copies of one number, vectors, strings and maps.
+ghost use Rattle.std.specs.Prelude.{map, true, ◌≡◌, ◌≤◌};
+ghost use Rattle.seg_types.specs.Commands.{Bytes, Elements, NoPairs, Strings};
 ghost use Rattle.seg_types.specs.Values.{kind_of_scalar, value_of_scalar};
-ghost use Rattle.segment_manager.specs.{Directory.kind_of, Plan.bare, State.UnchangedIfRefused};
-ghost use Rattle.segment_manager.specs.objects.Counted.{RefusesCount, is_count};
-ghost use Rattle.segment_manager.specs.containers.Filled.{ConstructsObject, FillsObject, HasBegun, equal_numbers};
+ghost use Rattle.seg_types.specs.declared.kinds.Kind.TheVariants.{Map as MapOf, Scalar as ScalarOf};
+ghost use Rattle.seg_types.specs.declared.kinds.Kind.TheVariants.{String as StringKind, Strings as StringsKind};
+ghost use Rattle.seg_types.specs.declared.kinds.Kind.TheVariants.{Vector as VectorOf};
+ghost use Rattle.segment_manager.specs.{Directory.kind_of, objects.Counted.RefusesCount, objects.Counted.is_count};
+ghost use Rattle.segment_manager.specs.{Keeping.IsBoundKey, Keeping.UnchangedWhere, containers.Filled.equal_numbers};
+ghost use Rattle.segment_manager.specs.{Plan.bare, State.UnchangedIfRefused};
+ghost use Rattle.segment_manager.specs.containers.Filled.{ConstructsObject, FillsObject, FindsOrMakes, HasBegun};
 
-use crate::containers::fillings::{MAX_COUNT, NewNumbers, ObjectInit};
-use crate::objects::construct_keys::ConstructKey;
+use crate::containers::fillings::{
+    MAX_COUNT, NewMap, NewNumbers, NewString, NewTexts, NewVector, ObjectInit,
+};
+use crate::objects::construct_keys::{ConstructKey, FindOrConstructKey};
 use crate::objects::pending_object::{PendingObject, begin_object, finish_object};
-use crate::segment::Segment;
+use crate::segment::{Result, Segment};
 use best_fit::Heap;
-use seg_types::{Handle, Refusal, Scalar, ScalarValue, by_value};
+use seg_types::{Handle, Refusal, Scalar, ScalarKind, ScalarValue, by_value};
 use seg_vector::Place;
 
 impl Segment {
@@ -34,7 +40,7 @@ impl Segment {
         key: &D,
         count: u32,
         value: T,
-    ) -> Result<Handle, Refusal>
+    ) -> Result<Handle>
         requires kind { D.suits key.now (ScalarOf T.kind) }
         requires non_empty { 1 ≤ count }
         requires max_count { count ≤ 1048576 }
@@ -58,7 +64,7 @@ impl Segment {
         key: &D,
         count: u32,
         value: T,
-    ) -> Result<Handle, Refusal>
+    ) -> Result<Handle>
         requires kind { D.suits key.now (ScalarOf T.kind) }
         ensures step { is_count count ≡ true
             → ConstructsObject self.old self.new (D.key key.now (ScalarOf T.kind))
@@ -81,7 +87,7 @@ impl Segment {
         key: &D,
         count: u32,
         value: ScalarValue,
-    ) -> Result<Handle, Refusal>
+    ) -> Result<Handle>
         requires kind { D.suits key.now (ScalarOf (kind_of_scalar value)) }
         requires non_empty { 1 ≤ count }
         requires max_count { count ≤ 1048576 }
@@ -108,7 +114,7 @@ impl Segment {
         &mut self,
         key: &D,
         filling: &F,
-    ) -> Result<Handle, Refusal>
+    ) -> Result<Handle>
         requires object { F.stands filling.now }
         requires kind { D.suits key.now (kind_of (bare (F.content filling.now))) }
         ensures step { ConstructsObject self.old self.new (D.key key.now (kind_of (bare (F.content filling.now))))
@@ -132,7 +138,7 @@ pub(crate) fn build<F: ObjectInit>(
     heap: &mut Heap,
     begun: PendingObject,
     filling: &F,
-) -> Result<Handle, Refusal>
+) -> Result<Handle>
     requires start { HasBegun heap.old (F.content filling.now) begun.handle begun.at begun.entry }
     requires object { F.stands filling.now }
     ensures { FillsObject heap.old heap.new begun.handle begun.at begun.entry (F.content filling.now) result }
@@ -143,4 +149,175 @@ pub(crate) fn build<F: ObjectInit>(
     };
     let filled = filling.fill(heap, place);
     finish_object(heap, begun, filled)
+}
+
+impl Segment {
+    /// Makes a vector of values, with a capacity of exactly their number, and returns its handle. A key with a kind
+    /// must have the kind of this vector. The conditions and errors of `construct` apply, except for the count.
+    ///
+    /// Example: `segment.construct_vec::<i64, _>(&name, &[])?`.
+    pub fn construct_vec<T: Scalar, D: ConstructKey>(
+        &mut self,
+        key: &D,
+        values: &[T],
+    ) -> Result<Handle>
+        requires kind { D.suits key.now (VectorOf T.kind) }
+        ensures step { ConstructsObject self.old self.new (D.key key.now (VectorOf T.kind))
+            (Elements T.kind (map T.whole values.now)) result }
+        ensures refused { UnchangedIfRefused self.old self.new result }
+    {
+        self.construct_under(key, &NewVector { values })
+    }
+
+    /// Makes a string of bytes, with a capacity of exactly their number, and returns its handle. A key with a kind must
+    /// have the kind `String`. The conditions and errors of `construct` apply, except for the count.
+    ///
+    /// Example: `segment.construct_string(&name, b"red")?`.
+    pub fn construct_string<D: ConstructKey>(&mut self, key: &D, bytes: &[u8]) -> Result<Handle>
+        requires kind { D.suits key.now StringKind }
+        ensures step { ConstructsObject self.old self.new (D.key key.now StringKind) (Bytes bytes.now) result }
+        ensures refused { UnchangedIfRefused self.old self.new result }
+    {
+        self.construct_under(key, &NewString { bytes })
+    }
+
+    /// Returns the handle of the vector, and the count 1. If no object has the key, makes a vector of the values; a
+    /// vector found stays as it is. A key with a kind must have the kind of this vector. The conditions and errors of
+    /// `find_or_construct` apply, except for the count.
+    ///
+    /// Example: `segment.find_or_construct_vec(&name, &[1i64, 2])?`.
+    pub fn find_or_construct_vec<T: Scalar, D: FindOrConstructKey>(
+        &mut self,
+        key: &D,
+        values: &[T],
+    ) -> Result<(Handle, u32)>
+        requires kind { D.suits key.now (VectorOf T.kind) }
+        ensures step { FindsOrMakes self.old self.new (D.key key.now (VectorOf T.kind))
+            (Elements T.kind (map T.whole values.now)) result }
+        ensures refused { UnchangedIfRefused self.old self.new result }
+        ensures search { UnchangedWhere self.old self.new (IsBoundKey (D.key key.now (VectorOf T.kind))) }
+    {
+        self.find_or_construct_under(key, &NewVector { values })
+    }
+
+    /// Returns the handle of the string, and the count 1. If no object has the key, makes a string of the bytes; a
+    /// string found stays as it is. A key with a kind must have the kind `String`. The conditions and errors of
+    /// `find_or_construct` apply, except for the count.
+    ///
+    /// Example: `segment.find_or_construct_string(&name, b"red")?`.
+    pub fn find_or_construct_string<D: FindOrConstructKey>(
+        &mut self,
+        key: &D,
+        bytes: &[u8],
+    ) -> Result<(Handle, u32)>
+        requires kind { D.suits key.now StringKind }
+        ensures step { FindsOrMakes self.old self.new (D.key key.now StringKind) (Bytes bytes.now) result }
+        ensures refused { UnchangedIfRefused self.old self.new result }
+        ensures search { UnchangedWhere self.old self.new (IsBoundKey (D.key key.now StringKind)) }
+    {
+        self.find_or_construct_under(key, &NewString { bytes })
+    }
+
+    /// Makes a vector of texts, with a capacity of exactly their number and a block for each text that is not empty,
+    /// and returns its handle. A key with a kind must have the kind `Strings`. The conditions and errors of `construct`
+    /// apply, except for the count.
+    ///
+    /// Example: `segment.construct_texts(&name, &[b"apples", b"pears"])?`.
+    pub fn construct_texts<D: ConstructKey>(&mut self, key: &D, texts: &[&[u8]]) -> Result<Handle>
+        requires kind { D.suits key.now StringsKind }
+        ensures step { ConstructsObject self.old self.new (D.key key.now StringsKind)
+            (Strings (map (λ text. text.now) texts.now)) result }
+        ensures refused { UnchangedIfRefused self.old self.new result }
+    {
+        self.construct_under(key, &NewTexts { texts })
+    }
+
+    /// Returns the handle of the vector of strings, and the count 1. If no object has the key, makes a vector of the
+    /// texts; a vector found stays as it is. A key with a kind must have the kind `Strings`. The conditions and errors
+    /// of `find_or_construct` apply, except for the count.
+    ///
+    /// Example: `segment.find_or_construct_texts(&name, &[])?`.
+    pub fn find_or_construct_texts<D: FindOrConstructKey>(
+        &mut self,
+        key: &D,
+        texts: &[&[u8]],
+    ) -> Result<(Handle, u32)>
+        requires kind { D.suits key.now StringsKind }
+        ensures step { FindsOrMakes self.old self.new (D.key key.now StringsKind)
+            (Strings (map (λ text. text.now) texts.now)) result }
+        ensures refused { UnchangedIfRefused self.old self.new result }
+        ensures search { UnchangedWhere self.old self.new (IsBoundKey (D.key key.now StringsKind)) }
+    {
+        self.find_or_construct_under(key, &NewTexts { texts })
+    }
+
+    /// Makes an empty map, and returns its handle. A key with a kind must have the kind of this map. The conditions and
+    /// errors of `construct` apply, except for the count.
+    ///
+    /// Example: `segment.construct_map::<i32, i64, _>(&name)?`.
+    pub fn construct_map<K: Scalar, V: Scalar, D: ConstructKey>(
+        &mut self,
+        key: &D,
+    ) -> Result<Handle>
+        requires kind { D.suits key.now (MapOf K.kind V.kind) }
+        ensures step { ConstructsObject self.old self.new (D.key key.now (MapOf K.kind V.kind))
+            (NoPairs K.kind V.kind) result }
+        ensures refused { UnchangedIfRefused self.old self.new result }
+    {
+        self.construct_map_of(key, K::kind(), V::kind())
+    }
+
+    /// Makes an empty map of two kinds, and returns its handle. The conditions and errors of `construct` apply, except
+    /// for the count.
+    ///
+    /// Example: `segment.construct_map_of(&name, ScalarKind::I32, ScalarKind::I64)?`.
+    pub fn construct_map_of<D: ConstructKey>(
+        &mut self,
+        key: &D,
+        keys: ScalarKind,
+        values: ScalarKind,
+    ) -> Result<Handle>
+        requires kind { D.suits key.now (MapOf keys values) }
+        ensures step { ConstructsObject self.old self.new (D.key key.now (MapOf keys values)) (NoPairs keys values)
+            result }
+        ensures refused { UnchangedIfRefused self.old self.new result }
+    {
+        self.construct_under(key, &NewMap { keys, values })
+    }
+
+    /// Returns the handle of the map, and the count 1. If no object has the key, makes an empty map; a map found stays
+    /// as it is. A key with a kind must have the kind of this map. The conditions and errors of `find_or_construct`
+    /// apply, except for the count.
+    ///
+    /// Example: `segment.find_or_construct_map::<i32, i64, _>(&name)?`.
+    pub fn find_or_construct_map<K: Scalar, V: Scalar, D: FindOrConstructKey>(
+        &mut self,
+        key: &D,
+    ) -> Result<(Handle, u32)>
+        requires kind { D.suits key.now (MapOf K.kind V.kind) }
+        ensures step { FindsOrMakes self.old self.new (D.key key.now (MapOf K.kind V.kind))
+            (NoPairs K.kind V.kind) result }
+        ensures refused { UnchangedIfRefused self.old self.new result }
+        ensures search { UnchangedWhere self.old self.new (IsBoundKey (D.key key.now (MapOf K.kind V.kind))) }
+    {
+        self.find_or_construct_map_of(key, K::kind(), V::kind())
+    }
+
+    /// Returns the handle of the map, and the count 1. If no object has the key, makes an empty map of two kinds. The
+    /// conditions and errors of `find_or_construct` apply, except for the count.
+    ///
+    /// Example: `segment.find_or_construct_map_of(&name, ScalarKind::I32, ScalarKind::I64)?`.
+    pub fn find_or_construct_map_of<D: FindOrConstructKey>(
+        &mut self,
+        key: &D,
+        keys: ScalarKind,
+        values: ScalarKind,
+    ) -> Result<(Handle, u32)>
+        requires kind { D.suits key.now (MapOf keys values) }
+        ensures step { FindsOrMakes self.old self.new (D.key key.now (MapOf keys values)) (NoPairs keys values) result }
+        ensures refused { UnchangedIfRefused self.old self.new result }
+        ensures search { UnchangedWhere self.old self.new (IsBoundKey (D.key key.now (MapOf keys values))) }
+    {
+        self.find_or_construct_under(key, &NewMap { keys, values })
+    }
 }

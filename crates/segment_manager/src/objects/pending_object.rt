@@ -1,18 +1,18 @@
 //! The construction of an object: it allocates its blocks and writes its head. After the object is filled, it links its
 //! entry, or frees the blocks.
-ghost use Rattle.std.specs.Prelude.{◌<◌, ◌^◌, ◌≡◌, ◌≤◌, length};
+ghost use Rattle.std.specs.Prelude.{length, ◌<◌, ◌^◌, ◌≡◌, ◌≤◌};
 ghost use Rattle.raw_region.specs.Memory.{WindowState};
 ghost use Rattle.seg_types.specs.{Keys.new_key_seen, Names.Key as AnyKey, Names.NoKey};
 ghost use Rattle.seg_index.specs.{Held.HasIndex, Held.index_at, declared.keys.Entry.Entry as AnyEntry};
-ghost use Rattle.segment_manager.specs.objects.PendingObjects.{BeginsEntry, BeginsObject, Ends, GivesAllBack, IsEnding};
-ghost use Rattle.segment_manager.specs.{State.IsSegment, objects.NewObjects.IsNewKeyOf, objects.NewObjects.IsOfKind};
 ghost use Rattle.segment_manager.specs.{indexes.Indexed.class_of_index, objects.PendingObjects.WritesUnindexedObject};
+ghost use Rattle.segment_manager.specs.State.{IsSegment};
+ghost use Rattle.segment_manager.specs.objects.NewObjects.{IsNewKeyOf, IsOfKind, Requests};
+ghost use Rattle.segment_manager.specs.objects.PendingObjects.{BeginsEntry, BeginsObject, Ends, GivesAllBack, IsEnding};
 
-use crate::blocks::requesting::{Requested, request};
 use crate::containers::fillings::ObjectShape;
 use crate::layout::{HEAD_LEN, value_at};
 use crate::objects::head::write_head;
-use best_fit::Heap;
+use best_fit::{Heap, NoSpace};
 use block_tags::Role;
 use raw_region::Steps;
 use seg_index::{Entry, Growth, Index, Lookup};
@@ -173,5 +173,29 @@ fn give_back(heap: &mut Heap, handle: u64, entry: Option<PendingEntry>)
     heap.deallocate(handle, &mut Steps::new());
     if let Some(new) = entry {
         Index::give_back(new.growth, heap, &mut Steps::new());
+    }
+}
+
+/// The blocks of a new object: its own, and the one that its index grows into. Both are in use, but no entry leads to
+/// them yet.
+#[derive(Drop)]
+pub(crate) struct Requested {
+    pub(crate) handle: u64,
+    pub(crate) growth: Growth,
+}
+
+/// Allocates the blocks of a new object with an entry in an index. A full index first gets a larger block; then the
+/// object gets a block of `len` bytes. If no gap is long enough for the second, it frees the first.
+pub(crate) fn request(heap: &mut Heap, index: Index, len: u64) -> Result<Requested, NoSpace>
+    requires { HasIndex heap.old (index_at index) }
+    ensures { Requests heap.old heap.new (index_at index) len result }
+{
+    let growth = index.prepare(heap, &mut Steps::new())?;
+    match heap.allocate(len, Role::Object, &mut Steps::new()) {
+        Ok(handle) => Ok(Requested { handle, growth }),
+        Err(NoSpace) => {
+            Index::give_back(growth, heap, &mut Steps::new());
+            Err(NoSpace)
+        }
     }
 }

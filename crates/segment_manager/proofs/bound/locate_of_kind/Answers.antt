@@ -1,6 +1,6 @@
 -- The object that is found has the kind or not.
 use Rattle.segment_manager.proofs.bound.locate_of_kind.Goals as goal
-use Rattle.segment_manager.proofs.{bound.ByKey.of-found, objects.Here.seen-object}
+use Rattle.segment_manager.proofs.{bound.ByKey.of-found, objects.Destroys.seen-object}
 
 pub read_of_kind-requires : goal.read_of_kind-requires
 read_of_kind-requires g c =

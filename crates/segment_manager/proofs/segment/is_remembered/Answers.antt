@@ -1,7 +1,7 @@
 -- The handle of a block that is remembered is an object's where the block is for an object.
 use Rattle.segment_manager.proofs.segment.is_remembered.Goals as goal
-use Rattle.std.proofs.Common.{◌≡◌, Bool, subst, true, ℕ}
-use Rattle.segment_manager.proofs.objects.KeyCalls.{role-answers}
+use Rattle.std.proofs.Common.{Bool, subst, true, ℕ, ◌≡◌}
+use Rattle.segment_manager.proofs.objects.Destroys.{role-answers}
 use Rattle.segment_manager.specs.{State.AnswersWith, State.SegmentState, objects.Found.is_object_at}
 
 known-object : {s t : SegmentState} (h : ℕ) {b : Bool} → s ≡ t → AnswersWith s (λ d. is_object_at d h) b → b ≡ true

@@ -1,7 +1,7 @@
 -- The law, by the plans of the commands.
-use Rattle.segment_manager.proofs.directory.Refusals.{step-refused, step_of_kind-refused, step-read_only}
-use Rattle.segment_manager.proofs.directory.Refusals.{step_of_kind-read_only}
 use Rattle.segment_manager.proofs.theorems.refusals_change_nothing.Goals as goal
+use Rattle.segment_manager.proofs.directory.AnyDirectory.{step-read_only, step-refused, step_of_kind-read_only}
+use Rattle.segment_manager.proofs.directory.AnyDirectory.{step_of_kind-refused}
 
 pub returns : goal.returns
 returns c = record {

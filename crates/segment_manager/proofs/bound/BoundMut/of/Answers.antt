@@ -1,7 +1,7 @@
 -- Without such an object, or in a segment that is open for reading, each call that would change it is refused.
-use Rattle.segment_manager.proofs.Common.{exit-is, refl, sym, subst, ◌∙◌, Err}
-use Rattle.segment_manager.proofs.{containers.ToChange.to_change, directory.CommandSteps.refuses_of_kind-read_only}
 use Rattle.segment_manager.proofs.bound.BoundMut.of.Goals as goal
+use Rattle.segment_manager.proofs.{containers.ToChange.to_change, directory.AnyDirectory.refuses_of_kind-read_only}
+use Rattle.segment_manager.proofs.Common.{Err, exit-is, refl, subst, sym, ◌∙◌}
 use Rattle.segment_manager.specs.objects.BoundObjects.{LacksKind}
 
 pub returns-then-is_read_only : goal.returns-then-is_read_only

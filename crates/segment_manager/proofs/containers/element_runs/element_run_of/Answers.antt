@@ -1,8 +1,8 @@
 -- The run of the located object, and its bytes.
-use Rattle.segment_manager.proofs.{directory.HeapCalls.denotes-heap, Common.current}
-use Rattle.segment_manager.proofs.objects.{Here.seen-object, Locating.handle-located, Locating.located-there}
-use Rattle.segment_manager.proofs.containers.ElementRuns.{run-answers, run-bytes}
 use Rattle.segment_manager.proofs.containers.element_runs.element_run_of.Goals as goal
+use Rattle.segment_manager.proofs.{Common.current, containers.ElementRuns.run-answers, containers.ElementRuns.run-bytes}
+use Rattle.segment_manager.proofs.directory.AnyDirectory.{denotes-heap}
+use Rattle.segment_manager.proofs.objects.{Destroys.seen-object, Locating.handle-located, Locating.located-there}
 use Rattle.segment_manager.specs.objects.BoundObjects.{key_of}
 
 pub read_run-requires-clause-heap : goal.read_run-requires-clause-heap

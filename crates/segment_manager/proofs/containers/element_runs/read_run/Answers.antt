@@ -1,9 +1,9 @@
 -- The located object has the kind, and the offset of the value.
-use Rattle.segment_manager.proofs.Common.{◌+◌, ◌∙◌, Located, ap, arith, length, padded, sym}
-use Rattle.segment_manager.proofs.containers.ElementRuns.{string-read, vector-read}
-use Rattle.segment_manager.proofs.objects.{Pieces.room-small, Standings.standing-room}
-use Rattle.segment_manager.specs.objects.Located.{value_offset}
 use Rattle.segment_manager.proofs.containers.element_runs.read_run.Goals as goal
+use Rattle.segment_manager.proofs.Common.{Located, ap, arith, length, padded, sym, ◌+◌, ◌∙◌}
+use Rattle.segment_manager.proofs.containers.ElementRuns.{string-read, vector-read}
+use Rattle.segment_manager.proofs.objects.{Exchanged.room-small, Standings.standing-room}
+use Rattle.segment_manager.specs.objects.Located.{value_offset}
 
 pub overflow_add-result : goal.overflow_add-result
 overflow_add-result c =

@@ -1,16 +1,16 @@
 -- The container of the located object is changed by the call for its kind.
+use Rattle.segment_manager.proofs.containers.storage.change_object.Goals as goal
 use Rattle.segment_manager.proofs.Common.{ByHandle, Located, SegmentState, StringsKind, ap, command_of, done_answer}
 use Rattle.segment_manager.proofs.Common.{has_storage, inl, inr, refl, subst, sym}
-use Rattle.segment_manager.proofs.bound.Places.{container-here, container-there}
-use Rattle.segment_manager.proofs.containers.OneLength.{elements-changed, elements-kept, some-elements}
+use Rattle.segment_manager.proofs.bound.ByKey.{container-here, container-there}
+use Rattle.segment_manager.proofs.containers.{ItemSteps.change-other, Safely.Answered, Safely.answered}
+use Rattle.segment_manager.proofs.containers.{KeptContainers.texts-kept, RangeCalls.has_storage-left}
+use Rattle.segment_manager.proofs.containers.ElementRuns.{elements-changed, elements-kept, some-elements}
 use Rattle.segment_manager.proofs.containers.TextListCalls.{texts-changed, texts-standing}
-use Rattle.segment_manager.proofs.containers.storage.change_object.Goals.{After-change_elements, After-change_texts}
-use Rattle.segment_manager.proofs.containers.{AnyStorage.change-other, Released.has_storage-left}
-use Rattle.segment_manager.proofs.containers.{KeptContainers.texts-kept, Safely.Answered, Safely.answered}
 use Rattle.segment_manager.proofs.objects.Locating.{enough-by_key, kind-by_key, located-changes}
 use Rattle.segment_manager.specs.containers.Stored.{ChangesElements, IsElements, each_of}
 use Rattle.segment_manager.specs.objects.{BoundObjects.key_of, Located.IsLocated, Located.IsObject}
-use Rattle.segment_manager.proofs.containers.storage.change_object.Goals as goal
+use Rattle.segment_manager.proofs.containers.storage.change_object.Goals.{After-change_elements, After-change_texts}
 
 -- the object is located by its handle
 located : {s : SegmentState} {o : Located} → IsObject o s → IsLocated s (key_of o) o

@@ -1,8 +1,8 @@
 -- The words of the located container are read.
-use Rattle.segment_manager.proofs.containers.OneLength.{measured, places-otherwise, places_in, word-room}
-use Rattle.segment_manager.proofs.{Common.ap, Common.arith, Common.bytes_of, Common.sym, bound.Places.container-there}
-use Rattle.segment_manager.specs.objects.BoundObjects.{key_of}
 use Rattle.segment_manager.proofs.containers.storage.measure_container.Goals as goal
+use Rattle.segment_manager.proofs.{Common.ap, Common.arith, Common.bytes_of, Common.sym, bound.ByKey.container-there}
+use Rattle.segment_manager.proofs.containers.ElementRuns.{measured, places-otherwise, places_in, word-room}
+use Rattle.segment_manager.specs.objects.BoundObjects.{key_of}
 
 pub word-len-requires : goal.word-len-requires
 word-len-requires c = word-room c.segment.view_is (key_of c.args.object) c.args.object.kind _

@@ -1,7 +1,8 @@
 -- The value is made at its place, and then its object's entry is added, or its blocks are freed.
-use Rattle.segment_manager.proofs.Common.{bare, count_of, kind_of, value_len}
-use Rattle.segment_manager.proofs.objects.{FilledCalls.builds, FilledCalls.ending, Loose.begun-heap, Loose.begun-room}
 use Rattle.segment_manager.proofs.objects.constructing.build.Goals as goal
+use Rattle.segment_manager.proofs.Common.{bare, count_of, kind_of, value_len}
+use Rattle.segment_manager.proofs.objects.Exchanged.{begun-heap, begun-room}
+use Rattle.segment_manager.proofs.objects.FilledCalls.{builds, ending}
 
 pub fill-filled-requires-clause-heap : goal.fill-filled-requires-clause-heap
 fill-filled-requires-clause-heap g c =

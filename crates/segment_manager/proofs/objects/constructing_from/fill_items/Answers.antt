@@ -1,8 +1,9 @@
 -- Each turn takes one more item and writes it after the earlier ones.
-use Rattle.segment_manager.proofs.Common.{◌≡◌, sym, ap, subst, ◌+◌, ◌*◌, ◌<◌, IsTrue, Fits, w64, arith, has_room}
-use Rattle.segment_manager.proofs.{Common.live_of, Common.size_of, objects.Filling.filling-more}
-use Rattle.segment_manager.proofs.{objects.Filling.last-holds, objects.Pieces.next-small, objects.Pieces.room-once_more}
 use Rattle.segment_manager.proofs.objects.constructing_from.fill_items.Goals as goal
+use Rattle.std.proofs.Common.{Fits, w64}
+use Rattle.segment_manager.proofs.Common.{IsTrue, ap, arith, has_room, live_of, size_of, subst, sym, ◌*◌, ◌+◌, ◌<◌, ◌≡◌}
+use Rattle.segment_manager.proofs.objects.ArrayItems.{filling-more, last-holds}
+use Rattle.segment_manager.proofs.objects.Exchanged.{next-small, room-once_more}
 
 pub overflow_add-at : goal.overflow_add-at
 overflow_add-at g c =

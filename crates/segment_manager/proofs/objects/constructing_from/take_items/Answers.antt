@@ -1,7 +1,8 @@
 -- The object is filled, and then its entry is added, or all its blocks are freed.
-use Rattle.segment_manager.proofs.Common.{◌*◌, Scalar, SegmentState, Write, refl, size_of}
-use Rattle.segment_manager.proofs.objects.{ItemCalls.fills-ending, ItemCalls.takes, Loose.begun-heap, Loose.begun-room}
 use Rattle.segment_manager.proofs.objects.constructing_from.take_items.Goals as goal
+use Rattle.segment_manager.proofs.Common.{Scalar, SegmentState, Write, refl, size_of, ◌*◌}
+use Rattle.segment_manager.proofs.objects.Exchanged.{begun-heap, begun-room}
+use Rattle.segment_manager.proofs.objects.FilledCalls.{fills-ending, takes}
 
 pub fill_items-filled-requires-clause-heap : goal.fill_items-filled-requires-clause-heap
 fill_items-filled-requires-clause-heap g c =

@@ -1,10 +1,10 @@
 -- The head decides which value the object has, and its offset.
 use Rattle.segment_manager.proofs.objects.destroying.release_contents.Goals as goal
-use Rattle.segment_manager.proofs.Common.{◌∙◌, ap, subst, sym, ℕ, ◌+◌, padded, head_len}
-use Rattle.seg_vector.specs.{Elements.FreesStorage, Containers.IsStanding}
-use Rattle.segment_manager.proofs.containers.Released.{elements-contents, has_storage-left, held-object}
-use Rattle.segment_manager.proofs.containers.Released.{number-contents, pairs-contents, some-elements, some-pairs}
-use Rattle.segment_manager.proofs.containers.Released.{some-texts, texts-contents}
+use Rattle.seg_vector.specs.{Containers.IsStanding, Elements.FreesStorage}
+use Rattle.segment_manager.proofs.Common.{ap, head_len, padded, subst, sym, ℕ, ◌+◌, ◌∙◌}
+use Rattle.segment_manager.proofs.containers.RangeCalls.{elements-contents, has_storage-left, held-object}
+use Rattle.segment_manager.proofs.containers.RangeCalls.{number-contents, pairs-contents, some-elements, some-pairs}
+use Rattle.segment_manager.proofs.containers.RangeCalls.{some-texts, texts-contents}
 
 pub read_head-head-requires : goal.read_head-head-requires
 read_head-head-requires c = held-object c.args.heap.now.bytes c.args.handle c.requires

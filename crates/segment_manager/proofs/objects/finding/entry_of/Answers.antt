@@ -1,7 +1,7 @@
 -- The name that a key is passes the test of names.
-use Rattle.segment_manager.proofs.Common.{◌≡◌, subst, true, is_text_name}
-use Rattle.segment_manager.proofs.objects.NewKeys.{text-is_name}
 use Rattle.segment_manager.proofs.objects.finding.entry_of.Goals as goal
+use Rattle.segment_manager.proofs.Common.{is_text_name, subst, true, ◌≡◌}
+use Rattle.segment_manager.proofs.objects.Constructed.{text-is_name}
 
 pub returns-in-Name-clause-new : goal.returns-in-Name-clause-new
 returns-in-Name-clause-new c =

@@ -1,13 +1,13 @@
 -- An object is found under the entry, or made with one, or a block is refused.
 use Rattle.seg_types.specs.Commands as asked
-use Rattle.segment_manager.proofs.Common.{Ok, SegmentState, Write, bare, exit-is, found_object_answer, kind_of}
-use Rattle.segment_manager.proofs.Common.{pair_of_kind, subst, sym, with_count}
-use Rattle.segment_manager.proofs.Common.{◌≡◌, Constructs, Err, FindsOrConstructs, IsNewKeyOf, IsObjectInBlock, Object}
-use Rattle.segment_manager.proofs.indexes.HeldIndexes.{denotes-sorted_index}
-use Rattle.segment_manager.proofs.objects.FilledCalls.{begun-for, found-absent, found-all, found-built, found-not_begun}
-use Rattle.segment_manager.proofs.objects.KeyCalls.{found-answers, place-below, segment-index}
-use Rattle.segment_manager.proofs.objects.{FilledCalls.no-object, Here.has-object, NewKeys.key-seeks, NewKeys.key-short}
 use Rattle.segment_manager.proofs.objects.finding_or_constructing.find_or_construct_entered.Goals as goal
+use Rattle.segment_manager.proofs.Common.{Constructs, Err, FindsOrConstructs, IsNewKeyOf, IsObjectInBlock, Object, Ok}
+use Rattle.segment_manager.proofs.Common.{SegmentState, Write, bare, exit-is, found_object_answer, kind_of}
+use Rattle.segment_manager.proofs.Common.{pair_of_kind, subst, sym, with_count, ◌≡◌}
+use Rattle.segment_manager.proofs.indexes.Bridge.{denotes-sorted_index}
+use Rattle.segment_manager.proofs.objects.{Constructed.key-seeks, Constructed.key-short, FilledCalls.no-object}
+use Rattle.segment_manager.proofs.objects.Destroys.{found-answers, has-object, place-below, segment-index}
+use Rattle.segment_manager.proofs.objects.FilledCalls.{begun-for, found-absent, found-all, found-built, found-not_begun}
 
 pub lookup-requires-clause-index : goal.lookup-requires-clause-index
 lookup-requires-clause-index g c = denotes-sorted_index c.args.index c.requires.segment.1.denotes

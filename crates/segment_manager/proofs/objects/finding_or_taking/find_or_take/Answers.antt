@@ -1,13 +1,13 @@
 -- An object is found under the entry, or made of items with one, or a block is refused.
-use Rattle.segment_manager.proofs.Common.{exit-is, pair_of_kind, subst, sym}
-use Rattle.segment_manager.proofs.Common.{◌≡◌, Err, IsObjectInBlock, Object, Scalar, ScalarKind, SegmentState, Write}
-use Rattle.segment_manager.proofs.indexes.HeldIndexes.{denotes-sorted_index}
-use Rattle.segment_manager.proofs.objects.ItemCalls.{begun-numbers, found-items, made-items_or_none, no-objects}
-use Rattle.segment_manager.proofs.objects.KeyCalls.{found-answers, place-below, segment-index}
-use Rattle.segment_manager.proofs.objects.{Filling.always-holds, ItemCalls.none-items, ItemCalls.shaped-key}
-use Rattle.segment_manager.proofs.objects.{Here.has-object, NewKeys.key-seeks, NewKeys.key-short}
-use Rattle.segment_manager.specs.objects.Items.{FindsOrTakesIn, TakesItemsIn}
 use Rattle.segment_manager.proofs.objects.finding_or_taking.find_or_take.Goals as goal
+use Rattle.segment_manager.proofs.Common.{Err, IsObjectInBlock, Object, Scalar, ScalarKind, SegmentState, Write}
+use Rattle.segment_manager.proofs.Common.{exit-is, pair_of_kind, subst, sym, ◌≡◌}
+use Rattle.segment_manager.proofs.indexes.Bridge.{denotes-sorted_index}
+use Rattle.segment_manager.proofs.objects.{ArrayItems.always-holds, FilledCalls.none-items, FilledCalls.shaped-key}
+use Rattle.segment_manager.proofs.objects.Constructed.{key-seeks, key-short}
+use Rattle.segment_manager.proofs.objects.Destroys.{found-answers, has-object, place-below, segment-index}
+use Rattle.segment_manager.proofs.objects.FilledCalls.{begun-numbers, found-items, made-items_or_none, no-objects}
+use Rattle.segment_manager.specs.objects.Items.{FindsOrTakesIn, TakesItemsIn}
 
 pub lookup-requires-clause-index : goal.lookup-requires-clause-index
 lookup-requires-clause-index g c = denotes-sorted_index c.args.index c.requires.segment.1.denotes

@@ -1,8 +1,8 @@
 -- The name lies in the payload.
-use Rattle.segment_manager.proofs.Common.{◌≡◌, ◌+◌, ◌-◌, ◌%◌, ◌≤◌, ◌∙◌, ap, arith, length, ℕ, part, live_of, Object}
-use Rattle.segment_manager.proofs.objects.Pieces.{lent, room-live}
-use Rattle.segment_manager.proofs.objects.Standings.{head-words, standing-name, standing-room}
 use Rattle.segment_manager.proofs.objects.head.read_name.Goals as goal
+use Rattle.segment_manager.proofs.Common.{Object, ap, arith, length, live_of, part, ℕ, ◌%◌, ◌+◌, ◌-◌, ◌∙◌, ◌≡◌, ◌≤◌}
+use Rattle.segment_manager.proofs.objects.Exchanged.{lent, room-live}
+use Rattle.segment_manager.proofs.objects.Standings.{head-words, standing-name, standing-room}
 
 pub word-len-requires : goal.word-len-requires
 word-len-requires c =

@@ -1,8 +1,8 @@
 -- Two words and the name, one after another.
-use Rattle.segment_manager.proofs.Common.{◌+◌, ◌∙◌, ap, arith, length, current, live_of, changed-room, padded}
-use Rattle.segment_manager.proofs.{Common.two_halves, objects.Pieces.head-written}
-use Rattle.best_fit.proofs.Laws.{room-less}
 use Rattle.segment_manager.proofs.objects.head.write_head.Goals as goal
+use Rattle.best_fit.proofs.Laws.{room-less}
+use Rattle.segment_manager.proofs.{Common.◌∙◌, objects.Exchanged.head-written}
+use Rattle.segment_manager.proofs.Common.{ap, arith, changed-room, current, length, live_of, padded, two_halves, ◌+◌}
 
 pub set_word-requires : goal.set_word-requires
 set_word-requires c = room-less (live_of c.args.heap.now.bytes) c.args.handle (16 + padded (length c.args.name.now)) 8

@@ -1,9 +1,9 @@
 -- The name, and zeros after it.
-use Rattle.segment_manager.proofs.Common.{◌≡◌, ◌+◌, ◌-◌, ◌∙◌, ap, subst, arith, length, take, replicate, List, ℕ}
-use Rattle.segment_manager.proofs.Common.{IsTrue, length-replicate, current, has_room, live_of, changed-room, padded}
-use Rattle.best_fit.proofs.Laws.{room-less}
-use Rattle.segment_manager.proofs.objects.Pieces.{name-written, zeros-taken}
 use Rattle.segment_manager.proofs.objects.head.write_name.Goals as goal
+use Rattle.best_fit.proofs.Laws.{room-less}
+use Rattle.segment_manager.proofs.{Common.◌≡◌, objects.Exchanged.name-written, objects.Exchanged.zeros-taken}
+use Rattle.segment_manager.proofs.Common.{IsTrue, List, ap, arith, changed-room, current, has_room, length}
+use Rattle.segment_manager.proofs.Common.{length-replicate, live_of, padded, replicate, subst, take, ℕ, ◌+◌, ◌-◌, ◌∙◌}
 
 pub write-requires : goal.write-requires
 write-requires c = room-less (live_of c.args.heap.now.bytes) c.args.handle (16 + padded (length c.args.name.now))

@@ -1,8 +1,8 @@
 -- The object of the handle is read.
-use Rattle.segment_manager.proofs.Common.{sym, subst, true, current, ByHandle, is_object_at, SaysOf, AnswersWith}
 use Rattle.segment_manager.proofs.objects.instance_info.instance_here.Goals as goal
-use Rattle.segment_manager.proofs.{directory.HeapCalls.denotes-heap, objects.OwnEntries.has-own_object}
-use Rattle.segment_manager.proofs.objects.KeyCalls.{key-says, handle-answers}
+use Rattle.segment_manager.proofs.Common.{AnswersWith, ByHandle, SaysOf, current, is_object_at, subst, sym, true}
+use Rattle.segment_manager.proofs.directory.AnyDirectory.{denotes-heap}
+use Rattle.segment_manager.proofs.objects.{Constructed.has-own_object, Destroys.handle-answers, Destroys.key-says}
 
 pub read_instance-requires-clause-heap : goal.read_instance-requires-clause-heap
 read_instance-requires-clause-heap c =

@@ -1,6 +1,6 @@
 -- What is found by the key is found by its handle.
-use Rattle.segment_manager.proofs.objects.{Here.seen-object, Locating.head-located, Locating.locates}
 use Rattle.segment_manager.proofs.objects.object_ref.locate.Goals as goal
+use Rattle.segment_manager.proofs.objects.{Destroys.seen-object, Locating.head-located, Locating.locates}
 
 pub read_object-requires : goal.read_object-requires
 read_object-requires g c =

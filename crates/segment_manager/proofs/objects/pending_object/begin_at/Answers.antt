@@ -1,8 +1,8 @@
 -- The blocks are requested and the head is written.
-use Rattle.segment_manager.proofs.Common.{ap, subst, ℕ, ◌+◌, inr, length, arith, current, ObjectRole}
-use Rattle.segment_manager.proofs.Common.{allocated-room, index_at, padded, RequestsBlocksErr, room_for}
-use Rattle.segment_manager.proofs.objects.Taking.{meant}
 use Rattle.segment_manager.proofs.objects.pending_object.begin_at.Goals as goal
+use Rattle.segment_manager.proofs.Common.{ObjectRole, RequestsBlocksErr, allocated-room, ap, arith, current, index_at}
+use Rattle.segment_manager.proofs.Common.{inr, length, padded, room_for, subst, ℕ, ◌+◌}
+use Rattle.segment_manager.proofs.objects.Exchanged.{meant}
 
 pub returns-in_default : goal.returns-in_default
 returns-in_default c = λ key entry n away. inr (record {

@@ -1,7 +1,7 @@
 -- An object has the key, or one is begun.
-use Rattle.segment_manager.proofs.indexes.HeldIndexes.{denotes-sorted_index}
-use Rattle.segment_manager.proofs.objects.{KeyCalls.segment-index, NewKeys.key-short}
 use Rattle.segment_manager.proofs.objects.pending_object.begin_entered.Goals as goal
+use Rattle.segment_manager.proofs.{indexes.Bridge.denotes-sorted_index, objects.Destroys.segment-index}
+use Rattle.segment_manager.proofs.objects.Constructed.{key-short}
 
 pub lookup-requires-clause-index : goal.lookup-requires-clause-index
 lookup-requires-clause-index c = denotes-sorted_index c.args.index c.requires.segment.1.denotes

@@ -1,9 +1,9 @@
 -- The key determines which index gets an entry.
 use Rattle.seg_types.specs.Names as names
 use Rattle.segment_manager.proofs.objects.pending_object.begin_object.Goals as goal
-use Rattle.segment_manager.proofs.Common.{◌≡◌, refl, sym, subst, true, new_key_seen, is_text_name, BeginsObject}
-use Rattle.segment_manager.proofs.{Common.IsOfKind, objects.NewKeys.text-is_name}
 use Rattle.seg_types.specs.declared.keys.NewKey.{NewKey}
+use Rattle.segment_manager.proofs.{Common.◌≡◌, objects.Constructed.text-is_name}
+use Rattle.segment_manager.proofs.Common.{BeginsObject, IsOfKind, is_text_name, new_key_seen, refl, subst, sym, true}
 
 pub begin_entered-requires-clause-key : goal.begin_entered-requires-clause-key
 begin_entered-requires-clause-key c =

@@ -1,7 +1,7 @@
 -- The object's block is freed first, and then the index's new block.
-use Rattle.segment_manager.proofs.Common.{subst, WritesUnindexedObject, WritesUnindexedForEntry}
-use Rattle.segment_manager.proofs.objects.Loose.{alone-back, entry-back, loose-held, loose-live}
 use Rattle.segment_manager.proofs.objects.pending_object.give_back.Goals as goal
+use Rattle.segment_manager.proofs.Common.{WritesUnindexedForEntry, WritesUnindexedObject, subst}
+use Rattle.segment_manager.proofs.objects.Exchanged.{alone-back, entry-back, loose-held, loose-live}
 
 pub deallocate-requires : goal.deallocate-requires
 deallocate-requires c = loose-live c.args.entry c.requires.0 c.args.heap.now c.args.handle c.requires.1

@@ -1,7 +1,7 @@
 -- Each turn passes a block or gap.
-use Rattle.segment_manager.proofs.{Common.sym, Common.◌∙◌, blocks.OwnWalks.own-end, blocks.OwnWalks.own-found}
-use Rattle.segment_manager.proofs.{blocks.OwnWalks.own-past}
 use Rattle.segment_manager.proofs.objects.walking_objects.next_own.Goals as goal
+use Rattle.segment_manager.proofs.Common.{sym, ◌∙◌}
+use Rattle.segment_manager.proofs.blocks.OwnBlocks.{own-end, own-found, own-past}
 
 pub returns-then-is_object : goal.returns-then-is_object
 returns-then-is_object c = own-found c.next.new.self c.spans.invariant.2 c.in-Some.ensures.steps

@@ -1,8 +1,8 @@
 -- The object of the key is changed as the object of its handle.
 use Rattle.segment_manager.proofs.segment.Segment.change_storage.Goals as goal
-use Rattle.segment_manager.proofs.Common.{exit-is, sym, ◌∙◌, Key, command_of}
-use Rattle.segment_manager.proofs.{containers.AnyStorage.nowhere-steps, directory.CommandSteps.refuses-read_only}
-use Rattle.segment_manager.proofs.containers.StorageSteps.{change-changes, change-nowhere}
+use Rattle.segment_manager.proofs.Common.{Key, command_of, exit-is, sym, ◌∙◌}
+use Rattle.segment_manager.proofs.containers.ItemSteps.{change-changes, change-nowhere, nowhere-steps}
+use Rattle.segment_manager.proofs.directory.AnyDirectory.{refuses-read_only}
 use Rattle.segment_manager.proofs.objects.Locating.{change-by_key, enough-by_key}
 
 pub returns-then-is_read_only-clause-step : goal.returns-then-is_read_only-clause-step

@@ -1,8 +1,8 @@
 -- The object is begun and made of items, or refused before.
-use Rattle.segment_manager.proofs.Common.{sym, ◌∙◌, new_key_seen, exit-is}
-use Rattle.segment_manager.proofs.objects.ItemCalls.{begun-so, items-segment}
-use Rattle.segment_manager.proofs.objects.ItemCalls.{refused-items, refused-segment, takes-nothing}
 use Rattle.segment_manager.proofs.segment.Segment.construct_items.Goals as goal
+use Rattle.segment_manager.proofs.Common.{exit-is, new_key_seen, sym, ◌∙◌}
+use Rattle.segment_manager.proofs.objects.FilledCalls.{begun-so, items-segment, refused-items, refused-segment}
+use Rattle.segment_manager.proofs.objects.FilledCalls.{takes-nothing}
 
 pub returns-then-is_read_only : goal.returns-then-is_read_only
 returns-then-is_read_only g c = takes-nothing _ g.I.Iterator.next_gives g.S.Spelling.whole (new_key_seen c.args.key.now)

@@ -1,12 +1,12 @@
 -- The object is begun, with the shape that its filling has, and then it is filled.
-use Rattle.segment_manager.proofs.Common.{exit-is, refl, sym, ap, subst, ◌∙◌, Err, Ok, Key, Constructs, bare}
-use Rattle.segment_manager.proofs.objects.FilledCalls.{begun-for, has-begun, construct-built, construct-not_begun}
-use Rattle.segment_manager.proofs.objects.FilledCalls.{made-segment, made-step}
-use Rattle.segment_manager.proofs.{Common.handle_answer, Common.kind_of, Common.new_key_seen}
-use Rattle.segment_manager.proofs.{directory.CommandSteps.refuses-read_only}
-use Rattle.seg_types.specs.Commands.{Construct}
-use Rattle.segment_manager.proofs.segment.Segment.construct_under.{Goals.After-build, Goals.In_err-begun, Given.Over}
 use Rattle.segment_manager.proofs.segment.Segment.construct_under.Goals as goal
+use Rattle.seg_types.specs.Commands.{Construct}
+use Rattle.segment_manager.proofs.{directory.AnyDirectory.refuses-read_only, segment.Segment.construct_under.Given.Over}
+use Rattle.segment_manager.proofs.Common.{Constructs, Err, Key, Ok, ap, bare, exit-is, handle_answer, kind_of}
+use Rattle.segment_manager.proofs.Common.{new_key_seen, refl, subst, sym, ◌∙◌}
+use Rattle.segment_manager.proofs.objects.FilledCalls.{begun-for, construct-built, construct-not_begun, has-begun}
+use Rattle.segment_manager.proofs.objects.FilledCalls.{made-segment, made-step}
+use Rattle.segment_manager.proofs.segment.Segment.construct_under.Goals.{After-build, In_err-begun}
 
 -- the effect of the call, under the key of the object's kind
 done : (g : Over) (c : After-build g) → Constructs c.self.inside.heap c.build.new.heap

@@ -1,7 +1,7 @@
 -- The count of the index is that of the directory.
-use Rattle.segment_manager.proofs.Common.{subst, length, objects_of, AnswersWith, SegmentState}
-use Rattle.segment_manager.proofs.objects.KeyCalls.{index-counts}
 use Rattle.segment_manager.proofs.segment.Segment.count_of.Goals as goal
+use Rattle.segment_manager.proofs.Common.{AnswersWith, SegmentState, length, objects_of, subst}
+use Rattle.segment_manager.proofs.objects.Destroys.{index-counts}
 
 pub returns-clause-count : goal.returns-clause-count
 returns-clause-count c =

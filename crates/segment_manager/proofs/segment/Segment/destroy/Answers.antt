@@ -1,11 +1,11 @@
 -- The key determines which index has the entry. The entry is removed with its object, or there is none.
-use Rattle.seg_types.specs.{Commands.Destroy, Keys.index_key_seen}
-use Rattle.segment_manager.proofs.Common.{UnchangedWhere, entries_of, none-some, refl, subst, sym, table_of, ℕ}
-use Rattle.segment_manager.proofs.Common.{◌∙◌, ◌≡◌, Entry, Found, Index, Key, LacksKey, Seeks, SegmentState}
-use Rattle.segment_manager.proofs.indexes.HeldIndexes.{denotes-index, denotes-sorted_index}
-use Rattle.segment_manager.proofs.objects.Destroys.{Ends, destroys-entered, destroys-none, found-entry}
-use Rattle.segment_manager.proofs.{directory.CommandSteps.refuses-read_only, indexes.Bridge.lookup-found}
 use Rattle.segment_manager.proofs.segment.Segment.destroy.Goals as goal
+use Rattle.seg_types.specs.{Commands.Destroy, Keys.index_key_seen}
+use Rattle.segment_manager.proofs.Common.{Entry, Found, Index, Key, LacksKey, Seeks, SegmentState, UnchangedWhere}
+use Rattle.segment_manager.proofs.Common.{entries_of, none-some, refl, subst, sym, table_of, ℕ, ◌∙◌, ◌≡◌}
+use Rattle.segment_manager.proofs.directory.AnyDirectory.{refuses-read_only}
+use Rattle.segment_manager.proofs.indexes.Bridge.{denotes-index, denotes-sorted_index, lookup-found}
+use Rattle.segment_manager.proofs.objects.Destroys.{Ends, destroys-entered, destroys-none, found-entry}
 
 -- a look-up that found an entry: an object has the key
 keeps-found : {s t : SegmentState} (view : s ≡ t) {new : SegmentState} (i : Index) (e : Entry) (at : ℕ)

@@ -1,8 +1,8 @@
 -- The object at the entry is read.
-use Rattle.segment_manager.proofs.Common.{subst, current, objects_of, SaysAt, SegmentState}
-use Rattle.segment_manager.proofs.objects.KeyCalls.{below-count, segment-index, entered-object, entered-says}
 use Rattle.segment_manager.proofs.segment.Segment.entered.Goals as goal
-use Rattle.segment_manager.proofs.directory.HeapCalls.{denotes-heap}
+use Rattle.segment_manager.proofs.Common.{SaysAt, SegmentState, current, objects_of, subst}
+use Rattle.segment_manager.proofs.directory.AnyDirectory.{denotes-heap}
+use Rattle.segment_manager.proofs.objects.Destroys.{below-count, entered-object, entered-says, segment-index}
 
 pub at-handle-requires-clause-index : goal.at-handle-requires-clause-index
 at-handle-requires-clause-index c = segment-index c.args.index c.self.invariant

@@ -1,7 +1,7 @@
 -- The object that was found has this kind and this count.
-use Rattle.segment_manager.proofs.objects.KeyCalls.{find-absent, find-there}
-use Rattle.segment_manager.proofs.{Common.exit-is, Common.key_seen, objects.Here.seen-object}
 use Rattle.segment_manager.proofs.segment.Segment.find_kind.Goals as goal
+use Rattle.segment_manager.proofs.Common.{exit-is, key_seen}
+use Rattle.segment_manager.proofs.objects.Destroys.{find-absent, find-there, seen-object}
 
 pub returns-in_default : goal.returns-in_default
 returns-in_default c = find-absent (key_seen c.args.key.now) c.args.kind c.in_default.ensures

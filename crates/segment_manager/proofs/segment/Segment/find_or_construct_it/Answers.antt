@@ -1,9 +1,9 @@
 -- The call on the heap, under the key that the object gets, as one on the segment.
-use Rattle.segment_manager.proofs.Common.{◌∙◌, IsOfKind, Key, Scalar, ap, index_key_seen, subst}
-use Rattle.segment_manager.proofs.objects.ItemCalls.{found-segment}
-use Rattle.segment_manager.proofs.segment.Segment.find_or_construct_it.{Given.Over, Goals.After-find_or_take}
-use Rattle.segment_manager.specs.objects.Items.{FindsOrTakesIn}
 use Rattle.segment_manager.proofs.segment.Segment.find_or_construct_it.Goals as goal
+use Rattle.segment_manager.proofs.{objects.FilledCalls.found-segment, segment.Segment.find_or_construct_it.Given.Over}
+use Rattle.segment_manager.proofs.Common.{IsOfKind, Key, Scalar, ap, index_key_seen, subst, ◌∙◌}
+use Rattle.segment_manager.specs.objects.Items.{FindsOrTakesIn}
+use Rattle.segment_manager.proofs.segment.Segment.find_or_construct_it.Goals.{After-find_or_take}
 
 -- the effect of the call, under the key of the object's kind
 done : (g : Over) (c : After-find_or_take g) → FindsOrTakesIn g.I.Iterator.next_gives g.T.Scalar.whole

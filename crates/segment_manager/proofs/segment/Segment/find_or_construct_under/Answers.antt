@@ -1,11 +1,11 @@
 -- The call on the heap, under the key that the object gets, as one on the segment.
-use Rattle.segment_manager.proofs.Common.{refl, sym, ap, subst, ◌∙◌, Key, FindsOrConstructs, IsOfKind, bare}
-use Rattle.segment_manager.proofs.segment.Segment.find_or_construct_under.Goals.{After-find_or_construct_entered}
-use Rattle.segment_manager.proofs.segment.Segment.find_or_construct_under.Given.{Over}
-use Rattle.segment_manager.proofs.{Common.index_key_seen, Common.kind_of, objects.FilledCalls.made-segment}
-use Rattle.segment_manager.proofs.{containers.KeptContainers.keeps-cut, directory.CommandSteps.refuses-read_only}
-use Rattle.segment_manager.specs.Keeping.{IsBoundKey}
 use Rattle.segment_manager.proofs.segment.Segment.find_or_construct_under.Goals as goal
+use Rattle.segment_manager.proofs.{containers.KeptContainers.keeps-cut, directory.AnyDirectory.refuses-read_only}
+use Rattle.segment_manager.proofs.{objects.FilledCalls.made-segment, segment.Segment.find_or_construct_under.Given.Over}
+use Rattle.segment_manager.proofs.Common.{FindsOrConstructs, IsOfKind, Key, ap, bare, index_key_seen, kind_of, refl}
+use Rattle.segment_manager.proofs.Common.{subst, sym, ◌∙◌}
+use Rattle.segment_manager.specs.Keeping.{IsBoundKey}
+use Rattle.segment_manager.proofs.segment.Segment.find_or_construct_under.Goals.{After-find_or_construct_entered}
 
 -- the effect of the call, under the key of the object's kind
 done : (g : Over) (c : After-find_or_construct_entered g)

@@ -1,7 +1,7 @@
 -- Each form of key is looked up in its own way.
-use Rattle.segment_manager.proofs.Common.{sym, subst, None, key_seen, ByName, ByKind, ByHandle, handle_at, AnswersWith}
-use Rattle.segment_manager.proofs.objects.KeyCalls.{anonymous-answers, handle-answers}
 use Rattle.segment_manager.proofs.segment.Segment.handle_of.Goals as goal
+use Rattle.segment_manager.proofs.Common.{AnswersWith, ByHandle, ByKind, ByName, None, handle_at, key_seen, subst, sym}
+use Rattle.segment_manager.proofs.objects.Destroys.{anonymous-answers, handle-answers}
 
 pub returns-in-Name : goal.returns-in-Name
 returns-in-Name c = subst (λ k. AnswersWith c.args.self.now (λ d. handle_at d (key_seen k)) c.look_up.result)

@@ -1,7 +1,7 @@
 -- The object of the key is read.
-use Rattle.segment_manager.proofs.{Common.subst, Common.current, Common.SaysOf, directory.HeapCalls.denotes-heap}
-use Rattle.segment_manager.proofs.{objects.Here.seen-handle, objects.Here.seen-object, objects.KeyCalls.key-says}
 use Rattle.segment_manager.proofs.segment.Segment.instance.Goals as goal
+use Rattle.segment_manager.proofs.{Common.SaysOf, Common.current, Common.subst, directory.AnyDirectory.denotes-heap}
+use Rattle.segment_manager.proofs.objects.Destroys.{key-says, seen-handle, seen-object}
 
 pub read_instance-requires-clause-heap : goal.read_instance-requires-clause-heap
 read_instance-requires-clause-heap g c =

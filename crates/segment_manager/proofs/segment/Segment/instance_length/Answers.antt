@@ -1,7 +1,7 @@
 -- The head has the count.
-use Rattle.segment_manager.proofs.{Common.◌∙◌, Common.key_seen, Common.count_of, objects.Here.seen-object}
-use Rattle.segment_manager.proofs.{objects.Here.seen-tells}
 use Rattle.segment_manager.proofs.segment.Segment.instance_length.Goals as goal
+use Rattle.segment_manager.proofs.Common.{count_of, key_seen, ◌∙◌}
+use Rattle.segment_manager.proofs.objects.Destroys.{seen-object, seen-tells}
 
 pub read_head-requires : goal.read_head-requires
 read_head-requires c = seen-object _ _ c.self.view_is (key_seen c.args.key.now) _ c.self.invariant c.in-Some.ensures

@@ -1,9 +1,9 @@
 -- The name is read after the head.
-use Rattle.segment_manager.proofs.Common.{◌≡◌, refl, sym, ap, ◌∙◌, Some, None, inl, inr, Class, Anonymous, UniqueClass}
-use Rattle.segment_manager.proofs.Common.{current, key_seen}
-use Rattle.segment_manager.specs.objects.Instances.{name_in, own_name}
-use Rattle.segment_manager.proofs.{directory.HeapCalls.denotes-heap, objects.Here.seen-object, objects.Here.seen-tells}
 use Rattle.segment_manager.proofs.segment.Segment.instance_name.Goals as goal
+use Rattle.segment_manager.proofs.{Common.refl, Common.sym, Common.◌∙◌, Common.◌≡◌, directory.AnyDirectory.denotes-heap}
+use Rattle.segment_manager.proofs.Common.{Anonymous, Class, None, Some, UniqueClass, ap, current, inl, inr, key_seen}
+use Rattle.segment_manager.proofs.objects.Destroys.{seen-object, seen-tells}
+use Rattle.segment_manager.specs.objects.Instances.{name_in, own_name}
 
 pub read_head-requires : goal.read_head-requires
 read_head-requires c = seen-object _ _ c.self.view_is (key_seen c.args.key.now) _ c.self.invariant c.in-Some.ensures

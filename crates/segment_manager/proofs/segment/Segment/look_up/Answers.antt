@@ -1,8 +1,8 @@
 -- The index is in the heap of the segment, and the object found there is the object of the key.
-use Rattle.segment_manager.proofs.Common.{subst, Some, None, handle_at, AnswersWith}
-use Rattle.segment_manager.proofs.indexes.HeldIndexes.{denotes-sorted_index}
-use Rattle.segment_manager.proofs.objects.KeyCalls.{absent-answers, found-answers, place-below, segment-index}
 use Rattle.segment_manager.proofs.segment.Segment.look_up.Goals as goal
+use Rattle.segment_manager.proofs.Common.{AnswersWith, None, Some, handle_at, subst}
+use Rattle.segment_manager.proofs.indexes.Bridge.{denotes-sorted_index}
+use Rattle.segment_manager.proofs.objects.Destroys.{absent-answers, found-answers, place-below, segment-index}
 
 pub lookup-requires-clause-index : goal.lookup-requires-clause-index
 lookup-requires-clause-index c = denotes-sorted_index c.args.index c.self.invariant.1.denotes

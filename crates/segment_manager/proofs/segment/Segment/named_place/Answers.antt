@@ -1,18 +1,18 @@
 -- The place that the look-up ends at.
-use Rattle.std.proofs.lemmas.Map.Lookups.{exact_bytes}
-use Rattle.seg_index.specs.Lookups.{order}
-use Rattle.segment_manager.proofs.Common.{Found, IsEntry, List, Name, Named, Object, SegmentState, Some, WindowState}
-use Rattle.segment_manager.proofs.Common.{ap, arith, by_name, bytes_of, cases_lt, current, entries_of, false, handle}
-use Rattle.segment_manager.proofs.Common.{inl, inr, is_lt, named_objects, nat_cmp, same_Some, slice_cmp, slice_get}
-use Rattle.segment_manager.proofs.Common.{slice_get_within, subst, sym, true, ℕ}
-use Rattle.segment_manager.proofs.Common.{◌<◌, ◌∙◌, ◌≡◌, ◌≤◌, ◌⊎◌, Absent, Denotes, Directory, Equal, FindsPosition}
-use Rattle.segment_manager.proofs.indexes.EntryPlaces.{all-at, ascends-at, at-handle, stands-at}
-use Rattle.segment_manager.proofs.indexes.HeldIndexes.{denotes-sorted_index, entries-in, objects-ascend}
-use Rattle.segment_manager.proofs.objects.KeyCalls.{ForIndex, of-directory}
-use Rattle.segment_manager.proofs.{directory.OneObject.handles-length, indexes.Indexes.by_name-strict}
-use Rattle.segment_manager.specs.indexes.NamesFrom.{IsFirstFrom, PartsNames, is_before}
-use denote.Ref.{Bor}
 use Rattle.segment_manager.proofs.segment.Segment.named_place.Goals as goal
+use Rattle.std.proofs.lemmas.Map.Lookups.{exact_bytes}
+use denote.Ref.{Bor}
+use Rattle.seg_index.specs.Lookups.{order}
+use Rattle.segment_manager.proofs.Common.{Absent, Denotes, Directory, Equal, FindsPosition, Found, IsEntry, List, Name}
+use Rattle.segment_manager.proofs.Common.{Named, Object, SegmentState, Some, WindowState, ap, arith, by_name, bytes_of}
+use Rattle.segment_manager.proofs.Common.{cases_lt, current, entries_of, false, handle, inl, inr, is_lt, named_objects}
+use Rattle.segment_manager.proofs.Common.{nat_cmp, same_Some, slice_cmp, slice_get, slice_get_within, subst, sym, true}
+use Rattle.segment_manager.proofs.Common.{ℕ, ◌<◌, ◌∙◌, ◌≡◌, ◌≤◌, ◌⊎◌}
+use Rattle.segment_manager.proofs.directory.Frame.{handles-length}
+use Rattle.segment_manager.proofs.indexes.{Bridge.objects-ascend, Bridge.stands-at, Indexes.by_name-strict}
+use Rattle.segment_manager.proofs.indexes.Bridge.{all-at, ascends-at, at-handle, denotes-sorted_index, entries-in}
+use Rattle.segment_manager.proofs.objects.Destroys.{ForIndex, of-directory}
+use Rattle.segment_manager.specs.indexes.NamesFrom.{IsFirstFrom, PartsNames, is_before}
 
 module _ (c : WindowState) (d : Directory) (k : Denotes current c.bytes d) (s : Bor (List ℕ)) where
   -- an entry compares the name of its object

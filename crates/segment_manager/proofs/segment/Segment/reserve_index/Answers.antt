@@ -1,9 +1,9 @@
 -- The capacity suffices, or a larger block is allocated, or it has no fit.
-use Rattle.segment_manager.proofs.indexes.Reserves.{reserve-changes, reserves, reserves-none}
-use Rattle.segment_manager.proofs.{Common.sym, Common.◌∙◌, Common.reserve_of}
-use Rattle.segment_manager.proofs.{objects.KeyCalls.segment-index, directory.CommandSteps.refuses-read_only}
-use Rattle.segment_manager.proofs.segment.Segment.reserve_index.Goals.{in-Ok, in-Err}
 use Rattle.segment_manager.proofs.segment.Segment.reserve_index.Goals as goal
+use Rattle.segment_manager.proofs.{directory.AnyDirectory.refuses-read_only, objects.Destroys.segment-index}
+use Rattle.segment_manager.proofs.Common.{reserve_of, sym, ◌∙◌}
+use Rattle.segment_manager.proofs.indexes.OtherTables.{reserve-changes, reserves, reserves-none}
+use Rattle.segment_manager.proofs.segment.Segment.reserve_index.Goals.{in-Err, in-Ok}
 
 pub returns-then-is_read_only-clause-step : goal.returns-then-is_read_only-clause-step
 returns-then-is_read_only-clause-step c = refuses-read_only c.args.self.now (reserve_of c.args.index c.args.n)

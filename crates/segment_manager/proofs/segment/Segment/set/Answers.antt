@@ -1,7 +1,6 @@
 -- An element of the array that is found is set. The segment ends as the bound object leaves it.
-use Rattle.segment_manager.proofs.Common.{◌≡◌, refl, rules, Scalar, Set, literal_of}
-use Rattle.segment_manager.proofs.{bound.ByKey.not-bound, bound.ByKey.steps}
 use Rattle.segment_manager.proofs.segment.Segment.set.Goals as goal
+use Rattle.segment_manager.proofs.{Common.refl, Common.rules, Common.◌≡◌, bound.ByKey.not-bound, bound.ByKey.steps}
 
 pub returns-in_err-self-clause-step : goal.returns-in_err-self-clause-step
 returns-in_err-self-clause-step g c = not-bound _ _ _ refl c.from_residual.ensures.1 c.in_err-self.ensures.location
@@ -9,6 +8,4 @@ returns-in_err-self-clause-step g c = not-bound _ _ _ refl c.from_residual.ensur
 
 pub returns-clause-step : goal.returns-clause-step
 returns-clause-step g c = let e : c.set.new.self.segment.now ≡ c.self-2-1.given.0 = search rules in
-    steps c.in_ok-self.ensures.segment c.in_ok-self.ensures.location e (Scalar g.T.Scalar.kind)
-    (Set (g.O.ObjectRef.key c.args.key.now) c.args.index (literal_of g.T.Scalar.kind
-    (g.T.Scalar.whole c.args.value))) c.set.ensures.step.step
+    steps c.in_ok-self.ensures.segment c.in_ok-self.ensures.location e _ c.set.ensures.step.step refl refl

@@ -1,9 +1,9 @@
 -- One index is shrunk, and then the other.
-use Rattle.segment_manager.proofs.{Common.refl, Common.sym, Common.◌∙◌, Common.Named, indexes.Reserves.shrinks}
-use Rattle.segment_manager.proofs.{indexes.Reserves.shrunk-index, directory.CommandSteps.refuses-read_only}
-use Rattle.segment_manager.proofs.{objects.KeyCalls.segment-index}
-use Rattle.seg_types.specs.Commands.{ShrinkIndexes}
 use Rattle.segment_manager.proofs.segment.Segment.shrink_indexes.Goals as goal
+use Rattle.seg_types.specs.Commands.{ShrinkIndexes}
+use Rattle.segment_manager.proofs.{directory.AnyDirectory.refuses-read_only, objects.Destroys.segment-index}
+use Rattle.segment_manager.proofs.Common.{Named, refl, sym, ◌∙◌}
+use Rattle.segment_manager.proofs.indexes.OtherTables.{shrinks, shrunk-index}
 
 pub returns-then-is_read_only-clause-step : goal.returns-then-is_read_only-clause-step
 returns-then-is_read_only-clause-step c =

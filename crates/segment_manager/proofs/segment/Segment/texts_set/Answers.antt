@@ -1,7 +1,6 @@
 -- The text replaces another in the vector of strings that is found. The segment ends as the bound object leaves it.
-use Rattle.segment_manager.proofs.Common.{◌≡◌, refl, rules, Quoted, Set, StringsKind}
-use Rattle.segment_manager.proofs.bound.ByKey.{not-bound, steps}
 use Rattle.segment_manager.proofs.segment.Segment.texts_set.Goals as goal
+use Rattle.segment_manager.proofs.{Common.refl, Common.rules, Common.◌≡◌, bound.ByKey.not-bound, bound.ByKey.steps}
 
 pub returns-in_err-self-clause-step : goal.returns-in_err-self-clause-step
 returns-in_err-self-clause-step g c = not-bound _ _ _ refl c.from_residual.ensures.1 c.in_err-self.ensures.location
@@ -9,5 +8,4 @@ returns-in_err-self-clause-step g c = not-bound _ _ _ refl c.from_residual.ensur
 
 pub returns-clause-step : goal.returns-clause-step
 returns-clause-step g c = let e : c.set.new.self.segment.now ≡ c.self-2-1.given.0 = search rules in
-    steps c.in_ok-self.ensures.segment c.in_ok-self.ensures.location e StringsKind (Set (g.O.ObjectRef.key
-    c.args.key.now) c.args.index (Quoted c.args.text.now)) c.set.ensures.step
+    steps c.in_ok-self.ensures.segment c.in_ok-self.ensures.location e _ c.set.ensures.step refl refl

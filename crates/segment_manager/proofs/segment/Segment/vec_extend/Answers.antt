@@ -1,7 +1,7 @@
 -- Values are appended to the vector that is found. The segment ends as the bound vector leaves it.
-use Rattle.segment_manager.proofs.bound.SliceCalls.{key-extends, refused-extends, same-gaps}
-use Rattle.segment_manager.proofs.{Common.◌≡◌, Common.map, Common.rules, bound.ByKey.rests}
 use Rattle.segment_manager.proofs.segment.Segment.vec_extend.Goals as goal
+use Rattle.segment_manager.proofs.Common.{map, rules, ◌≡◌}
+use Rattle.segment_manager.proofs.bound.ByKey.{key-extends, refused-extends, rests, same-gaps}
 
 pub returns-in_err-self-clause-step : goal.returns-in_err-self-clause-step
 returns-in_err-self-clause-step g c = refused-extends (rests c.in_err-self.was c.of.follows.holds-at-none)

@@ -1,8 +1,7 @@
 -- The element is read from the vector that is found.
-use Rattle.segment_manager.proofs.Common.{exit-is, refl, Get, Vector}
-use Rattle.segment_manager.proofs.{bound.ByKey.lacks-replies, bound.SliceCalls.replies-element}
-use Rattle.segment_manager.proofs.{objects.ElementLists.vector-gets}
 use Rattle.segment_manager.proofs.segment.Segment.vec_get.Goals as goal
+use Rattle.segment_manager.proofs.{bound.ByKey.lacks-replies, bound.ByKey.replies-element, objects.Stored.vector-gets}
+use Rattle.segment_manager.proofs.Common.{Get, Vector, exit-is, refl}
 
 pub returns-in_err-of : goal.returns-in_err-of
 returns-in_err-of g c = rw (exit-is c.from_residual.result _ c.from_residual.ensures.1) (lacks-replies c.args.self.now

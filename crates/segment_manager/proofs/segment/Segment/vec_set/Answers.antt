@@ -1,7 +1,7 @@
 -- A value of the vector that is found is set. The segment ends as the bound object leaves it.
-use Rattle.segment_manager.proofs.Common.{◌≡◌, Set, Vector, literal_of, refl, rules}
-use Rattle.segment_manager.proofs.bound.{ByKey.not-bound, ByKey.rests, ByKey.steps, SliceCalls.same-gaps}
 use Rattle.segment_manager.proofs.segment.Segment.vec_set.Goals as goal
+use Rattle.segment_manager.proofs.Common.{refl, rules, ◌≡◌}
+use Rattle.segment_manager.proofs.bound.ByKey.{not-bound, rests, same-gaps, steps}
 
 pub returns-in_err-self-clause-step : goal.returns-in_err-self-clause-step
 returns-in_err-self-clause-step g c = not-bound _ _ _ refl c.from_residual.ensures.1 c.in_err-self.ensures.location
@@ -9,9 +9,7 @@ returns-in_err-self-clause-step g c = not-bound _ _ _ refl c.from_residual.ensur
 
 pub returns-clause-step : goal.returns-clause-step
 returns-clause-step g c = let e : c.set.new.self.segment.now ≡ c.self-2-1.given.0 = search rules in
-    steps c.in_ok-self.ensures.segment c.in_ok-self.ensures.location e (Vector g.T.Scalar.kind)
-    (Set (g.O.ObjectRef.key c.args.key.now) c.args.index (literal_of g.T.Scalar.kind
-    (g.T.Scalar.whole c.args.value))) c.set.ensures.step.step
+    steps c.in_ok-self.ensures.segment c.in_ok-self.ensures.location e _ c.set.ensures.step.step refl refl
 
 pub returns-in_err-self-clause-gaps : goal.returns-in_err-self-clause-gaps
 returns-in_err-self-clause-gaps g c = same-gaps (rests c.in_err-self.was c.of.follows.holds-at-none)

@@ -1,7 +1,7 @@
 -- The role decides it.
-use Rattle.segment_manager.proofs.Common.{sym, ap, ◌∙◌, Bool, false, Option, Some, None, Role, ObjectRole, same_role}
-use Rattle.segment_manager.proofs.objects.KeyCalls.{same-test}
 use Rattle.segment_manager.proofs.blocks.tiles.TileInfo.is_object.Goals as goal
+use Rattle.segment_manager.proofs.Common.{Bool, None, ObjectRole, Option, Role, Some, ap, false, same_role, sym, ◌∙◌}
+use Rattle.segment_manager.proofs.objects.Destroys.{same-test}
 
 abbrev said : Option Role → Bool
 said u = elim u as (λ _. Bool) [ None ↦ false | Some role ↦ same_role role ObjectRole ]

@@ -1,7 +1,7 @@
 -- A segment has few tiles.
-use Rattle.segment_manager.proofs.Common.{sym, subst, ◌∙◌, rules, ◌<◌, length, bytes_of, tiles_of, IsSegment}
-use Rattle.segment_manager.proofs.{Common.slice_get_within, blocks.OwnWalks.tile-few}
 use Rattle.segment_manager.proofs.blocks.tiles.TilesIterator.next.Goals as goal
+use Rattle.segment_manager.proofs.{Common.◌<◌, Common.◌∙◌, blocks.OwnBlocks.tile-few}
+use Rattle.segment_manager.proofs.Common.{IsSegment, bytes_of, length, rules, slice_get_within, subst, sym, tiles_of}
 
 pub overflow_add-self : goal.overflow_add-self
 overflow_add-self c =

@@ -1,14 +1,14 @@
 -- The values are encoded at the elements' place, or there are too few elements.
+use Rattle.segment_manager.proofs.bound.slices.BoundMut+Slice+T+Fixed.overwrite.Goals as goal
 use Rattle.best_fit.proofs.Laws.{gaps-refl}
-use Rattle.segment_manager.proofs.Common.{eqb-true, is_read_only, length, length-map, map, size_of, subst, sym, ℕ}
-use Rattle.segment_manager.proofs.Common.{◌*◌, ◌+◌, ◌∙◌, ◌≡◌, Located, Ok, ScalarKind, SegmentState, ap, current}
-use Rattle.segment_manager.proofs.bound.SliceCalls.{overwritten}
-use Rattle.segment_manager.proofs.bound.slices.BoundMut+Slice+T+Fixed.overwrite.{Given.Over, Goals.After-spell}
+use Rattle.segment_manager.proofs.{containers.ScalarTypes.of-vector, directory.AnyDirectory.denotes-heap}
+use Rattle.segment_manager.proofs.Common.{Located, Ok, ScalarKind, SegmentState, ap, current, eqb-true, is_read_only}
+use Rattle.segment_manager.proofs.Common.{length, length-map, map, size_of, subst, sym, ℕ, ◌*◌, ◌+◌, ◌∙◌, ◌≡◌}
+use Rattle.segment_manager.proofs.bound.{ByKey.overwritten, slices.BoundMut+Slice+T+Fixed.overwrite.Given.Over}
 use Rattle.segment_manager.proofs.containers.RangeCalls.{RangeWritten, array-empty, array-framed, array-gaps}
 use Rattle.segment_manager.proofs.containers.RangeCalls.{array-room, array-short, array-spelled, series-test}
-use Rattle.segment_manager.proofs.{containers.ScalarTypes.of-vector, directory.HeapCalls.denotes-heap}
 use Rattle.segment_manager.specs.objects.{BoundObjects.key_of, Located.IsObject, Located.value_offset}
-use Rattle.segment_manager.proofs.bound.slices.BoundMut+Slice+T+Fixed.overwrite.Goals as goal
+use Rattle.segment_manager.proofs.bound.slices.BoundMut+Slice+T+Fixed.overwrite.Goals.{After-spell}
 
 pub returns-then-not-has_range-clause-step : goal.returns-then-not-has_range-clause-step
 returns-then-not-has_range-clause-step g c = array-short c.args.self.now.segment.now c.args.self.now.object

@@ -1,9 +1,9 @@
 -- The bytes that spell the value are written at the place.
-use Rattle.segment_manager.proofs.Common.{exit-is, refl, sym, ap, ◌∙◌, length, List, ℕ, Key, Set, literal_of}
-use Rattle.segment_manager.proofs.objects.Written.{changes-element, stores-nothing, stores-number}
 use Rattle.segment_manager.proofs.bound.slices.BoundMut+Slice+T+Fixed.set.Goals as goal
-use Rattle.segment_manager.proofs.{blocks.Blocks.spelling-length, bound.Changes.leaves-bound}
-use Rattle.segment_manager.proofs.{objects.Stored.place-room, objects.Stored.places-bound, bound.SliceCalls.past-error}
+use Rattle.segment_manager.proofs.{blocks.Blocks.spelling-length, bound.ByKey.leaves-bound, bound.ByKey.past-error}
+use Rattle.segment_manager.proofs.Common.{Key, List, Set, ap, exit-is, length, literal_of, refl, sym, ℕ, ◌∙◌}
+use Rattle.segment_manager.proofs.objects.Stored.{changes-element, place-room, places-bound, stores-nothing}
+use Rattle.segment_manager.proofs.objects.Stored.{stores-number}
 use Rattle.segment_manager.specs.objects.BoundObjects.{key_of}
 
 pub write-requires-2 : goal.write-requires-2

@@ -1,9 +1,9 @@
 -- The bytes at the place are read.
-use Rattle.segment_manager.proofs.{Common.exit-is, Common.◌∙◌, Common.current, directory.HeapCalls.denotes-heap}
-use Rattle.segment_manager.proofs.objects.Stored.{found-there, number-read, place-room, places-bound}
-use Rattle.segment_manager.proofs.bound.SliceCalls.{array-past}
-use Rattle.segment_manager.specs.objects.BoundObjects.{key_of}
 use Rattle.segment_manager.proofs.bound.slices.FixedSliceStorage.get.Goals as goal
+use Rattle.segment_manager.proofs.{Common.current, Common.exit-is, Common.◌∙◌, directory.AnyDirectory.denotes-heap}
+use Rattle.segment_manager.proofs.bound.ByKey.{array-past}
+use Rattle.segment_manager.proofs.objects.Stored.{found-there, number-read, place-room, places-bound}
+use Rattle.segment_manager.specs.objects.BoundObjects.{key_of}
 
 pub element-requires-2-clause-heap : goal.element-requires-2-clause-heap
 element-requires-2-clause-heap g c =

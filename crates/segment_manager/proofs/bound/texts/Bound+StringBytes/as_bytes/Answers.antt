@@ -1,8 +1,8 @@
 -- The string has these bytes.
-use Rattle.segment_manager.proofs.Common.{subst, Ok, bytes_at, AnswersWith, SegmentState, String}
-use Rattle.segment_manager.proofs.bound.Places.{container-here, text-here}
-use Rattle.segment_manager.proofs.containers.{TextAnswers.reads-bytes, ToChange.seen-found}
 use Rattle.segment_manager.proofs.bound.texts.Bound+StringBytes.as_bytes.Goals as goal
+use Rattle.segment_manager.proofs.{bound.ByKey.container-here, bound.ByKey.text-here, containers.ToChange.seen-found}
+use Rattle.segment_manager.proofs.Common.{AnswersWith, Ok, SegmentState, String, bytes_at, subst}
+use Rattle.segment_manager.proofs.containers.TextAnswers.{reads-bytes}
 use Rattle.segment_manager.specs.objects.BoundObjects.{key_of}
 
 pub as_bytes-requires : goal.as_bytes-requires

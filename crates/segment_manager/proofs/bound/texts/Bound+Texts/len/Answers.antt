@@ -1,7 +1,7 @@
 -- The vector of strings counts its texts.
-use Rattle.segment_manager.proofs.bound.Places.{container-here, texts-here}
-use Rattle.segment_manager.proofs.containers.TextListCalls.{texts-counted}
 use Rattle.segment_manager.proofs.bound.texts.Bound+Texts.len.Goals as goal
+use Rattle.segment_manager.proofs.bound.ByKey.{container-here, texts-here}
+use Rattle.segment_manager.proofs.containers.TextListCalls.{texts-counted}
 use Rattle.segment_manager.specs.objects.BoundObjects.{key_of}
 
 pub len-requires : goal.len-requires

@@ -1,8 +1,7 @@
 -- The bytes replace the bytes of the string.
-use Rattle.segment_manager.proofs.Common.{refl}
-use Rattle.segment_manager.proofs.bound.Places.{still-bound, text-here, to-change}
-use Rattle.segment_manager.proofs.containers.{Safely.of-error, TextAnswers.assign_text-gaps, TextAnswers.text-assigned}
 use Rattle.segment_manager.proofs.bound.texts.BoundMut+StringBytes.assign.Goals as goal
+use Rattle.segment_manager.proofs.{Common.refl, bound.ByKey.still-bound, bound.ByKey.text-here, bound.ByKey.to-change}
+use Rattle.segment_manager.proofs.containers.{Safely.of-error, TextAnswers.assign_text-gaps, TextAnswers.text-assigned}
 
 pub assign-requires : goal.assign-requires
 assign-requires c = text-here c.segment.view_is c.segment.invariant c.own_container-place.ensures c.args.self.now.live

@@ -1,8 +1,8 @@
 -- The byte is written in the string.
-use Rattle.segment_manager.proofs.bound.Places.{still-bound, text-here, to-change}
-use Rattle.segment_manager.proofs.containers.TextAnswers.{byte-value, set_byte-gaps, text-set}
 use Rattle.segment_manager.proofs.bound.texts.BoundMut+StringBytes.set.Goals as goal
 use Rattle.segment_manager.proofs.{Common.lt-ltb, Common.refl, containers.Safely.of-error}
+use Rattle.segment_manager.proofs.bound.ByKey.{still-bound, text-here, to-change}
+use Rattle.segment_manager.proofs.containers.TextAnswers.{byte-value, set_byte-gaps, text-set}
 
 pub set-requires : goal.set-requires
 set-requires c = text-here c.segment.view_is c.segment.invariant c.own_container-place.ensures c.args.self.now.live

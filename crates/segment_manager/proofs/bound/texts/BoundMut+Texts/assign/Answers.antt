@@ -1,8 +1,7 @@
 -- The texts replace the texts of the vector of strings.
-use Rattle.segment_manager.proofs.Common.{refl}
-use Rattle.segment_manager.proofs.bound.Places.{still-bound, texts-here, to-change}
-use Rattle.segment_manager.proofs.containers.TextListCalls.{array-first, assign-error, texts-assigned}
 use Rattle.segment_manager.proofs.bound.texts.BoundMut+Texts.assign.Goals as goal
+use Rattle.segment_manager.proofs.{Common.refl, bound.ByKey.still-bound, bound.ByKey.texts-here, bound.ByKey.to-change}
+use Rattle.segment_manager.proofs.containers.TextListCalls.{array-first, assign-error, texts-assigned}
 
 pub assign-requires : goal.assign-requires
 assign-requires c = texts-here c.segment.view_is c.segment.invariant c.own_container-place.ensures c.args.self.now.live

@@ -1,7 +1,7 @@
 -- The text is left out of the vector of strings.
-use Rattle.segment_manager.proofs.bound.Places.{still-bound, texts-here, to-change}
 use Rattle.segment_manager.proofs.bound.texts.BoundMut+Texts.erase.Goals as goal
-use Rattle.segment_manager.proofs.{Common.refl, containers.TextListCalls.text-erased, containers.Safely.of-error}
+use Rattle.segment_manager.proofs.{Common.refl, bound.ByKey.still-bound, bound.ByKey.texts-here, bound.ByKey.to-change}
+use Rattle.segment_manager.proofs.containers.{Safely.of-error, TextListCalls.text-erased}
 
 pub erase-requires : goal.erase-requires
 erase-requires c = texts-here c.segment.view_is c.segment.invariant c.own_container-place.ensures c.args.self.now.live

@@ -1,8 +1,8 @@
 -- The text is inserted into the vector of strings.
-use Rattle.segment_manager.proofs.bound.Places.{still-bound, texts-here, to-change}
-use Rattle.segment_manager.proofs.containers.TextListCalls.{text-first, text-inserted}
-use Rattle.segment_manager.proofs.{Common.refl, containers.Safely.of-error, containers.Safely.refuses-either}
 use Rattle.segment_manager.proofs.bound.texts.BoundMut+Texts.insert.Goals as goal
+use Rattle.segment_manager.proofs.{Common.refl, bound.ByKey.still-bound, bound.ByKey.texts-here, bound.ByKey.to-change}
+use Rattle.segment_manager.proofs.containers.Safely.{of-error, refuses-either}
+use Rattle.segment_manager.proofs.containers.TextListCalls.{text-first, text-inserted}
 
 pub insert-requires : goal.insert-requires
 insert-requires c = texts-here c.segment.view_is c.segment.invariant c.own_container-place.ensures c.args.self.now.live

@@ -1,7 +1,7 @@
 -- The last text is removed from the vector of strings.
-use Rattle.segment_manager.proofs.bound.Places.{still-led, texts-here, to-change}
 use Rattle.segment_manager.proofs.bound.texts.BoundMut+Texts.pop.Goals as goal
-use Rattle.segment_manager.proofs.{Common.refl, containers.TextListCalls.text-popped, containers.Safely.of-error}
+use Rattle.segment_manager.proofs.{Common.refl, bound.ByKey.still-led, bound.ByKey.texts-here, bound.ByKey.to-change}
+use Rattle.segment_manager.proofs.containers.{Safely.of-error, TextListCalls.text-popped}
 
 pub pop-requires : goal.pop-requires
 pop-requires c = texts-here c.segment.view_is c.segment.invariant c.own_container-place.ensures c.args.self.now.live

@@ -1,8 +1,7 @@
 -- The text is appended to the vector of strings.
-use Rattle.segment_manager.proofs.Common.{refl}
-use Rattle.segment_manager.proofs.bound.Places.{still-bound, texts-here, to-change}
-use Rattle.segment_manager.proofs.containers.{Safely.of-error, TextListCalls.text-first, TextListCalls.text-pushed}
 use Rattle.segment_manager.proofs.bound.texts.BoundMut+Texts.push.Goals as goal
+use Rattle.segment_manager.proofs.{Common.refl, bound.ByKey.still-bound, bound.ByKey.texts-here, bound.ByKey.to-change}
+use Rattle.segment_manager.proofs.containers.{Safely.of-error, TextListCalls.text-first, TextListCalls.text-pushed}
 
 pub push-requires : goal.push-requires
 push-requires c = texts-here c.segment.view_is c.segment.invariant c.own_container-place.ensures c.args.self.now.live

@@ -1,8 +1,7 @@
 -- The text replaces another in the vector of strings.
-use Rattle.segment_manager.proofs.bound.Places.{still-bound, texts-here, to-change}
 use Rattle.segment_manager.proofs.bound.texts.BoundMut+Texts.set.Goals as goal
-use Rattle.segment_manager.proofs.{Common.refl, containers.TextListCalls.text-set}
-use Rattle.segment_manager.proofs.containers.Safely.{of-error, refuses-either}
+use Rattle.segment_manager.proofs.{Common.refl, bound.ByKey.still-bound, bound.ByKey.texts-here, bound.ByKey.to-change}
+use Rattle.segment_manager.proofs.containers.{Safely.of-error, Safely.refuses-either, TextListCalls.text-set}
 
 pub set-requires : goal.set-requires
 set-requires c = texts-here c.segment.view_is c.segment.invariant c.own_container-place.ensures c.args.self.now.live

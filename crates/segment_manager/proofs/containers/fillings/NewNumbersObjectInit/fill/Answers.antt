@@ -1,6 +1,6 @@
 -- The bytes that are written spell the value.
-use Rattle.segment_manager.proofs.{Common.sym, Common.◌∙◌, objects.NewNumbers.equal-made}
 use Rattle.segment_manager.proofs.containers.fillings.NewNumbersObjectInit.fill.Goals as goal
+use Rattle.segment_manager.proofs.{Common.sym, Common.◌∙◌, objects.ArrayItems.equal-made}
 
 pub returns : goal.returns
 returns g c =

@@ -1,14 +1,14 @@
 -- The vector is made with its texts.
 use Rattle.seg_types.specs.Commands as asked
-use Rattle.seg_vector.specs.TextsCalls.{MakesTexts}
-use Rattle.segment_manager.proofs.Common.{LiveSet, MakesValue, MakesValueOk, Ok, OwnedText, Place, Refusal}
-use Rattle.segment_manager.proofs.Common.{ReplacesTexts, Result, Some, Texts, WindowState, [], are_bytes, current}
-use Rattle.segment_manager.proofs.Common.{length, list_all, live_of, map, new_array, no_backing, option_to_list}
-use Rattle.segment_manager.proofs.Common.{place_at, placed_texts, refl, subst, sym, text_blocks, ℕ}
-use Rattle.segment_manager.proofs.Common.{◌++◌, ◌∷◌, ◌≡◌, BackingArray, Bor, ChangesBytes, Err, IsHeap, IsTrue, List}
-use Rattle.segment_manager.proofs.containers.TextPlans.{all-met, all-unmet, beside_array, beside_texts}
-use Rattle.segment_manager.proofs.containers.{NewContainers.unwritten, PlacedTexts.texts-bytes, TextsHeld.good-texts}
 use Rattle.segment_manager.proofs.containers.fillings.NewTextsObjectInit.fill.Goals as goal
+use Rattle.seg_vector.specs.TextsCalls.{MakesTexts}
+use Rattle.segment_manager.proofs.Common.{BackingArray, Bor, ChangesBytes, Err, IsHeap, IsTrue, List, LiveSet}
+use Rattle.segment_manager.proofs.Common.{MakesValue, MakesValueOk, Ok, OwnedText, Place, Refusal, ReplacesTexts}
+use Rattle.segment_manager.proofs.Common.{Result, Some, Texts, WindowState, [], are_bytes, current, length, list_all}
+use Rattle.segment_manager.proofs.Common.{live_of, map, new_array, no_backing, option_to_list, place_at, placed_texts}
+use Rattle.segment_manager.proofs.Common.{refl, subst, sym, text_blocks, ℕ, ◌++◌, ◌∷◌, ◌≡◌}
+use Rattle.segment_manager.proofs.containers.{MapSteps.good-texts, MapSteps.texts-bytes, NewContainers.unwritten}
+use Rattle.segment_manager.proofs.containers.TextPlans.{all-met, all-unmet, beside_array, beside_texts}
 
 module _ (old mid new : WindowState) (p : Place) (change : ChangesBytes current old mid (place_at p) 24) where
   -- its texts are in their blocks

@@ -1,11 +1,11 @@
 -- The result of the iterator over the objects has the name.
-use Rattle.std.specs.Borrow.{Bor}
-use Rattle.segment_manager.proofs.Common.{List, NameWalk, Named, None, Object, Option, SaysAt, SegmentState, Some, Walk}
-use Rattle.segment_manager.proofs.Common.{YieldsInstance, ap, length, named_objects, objects_of, option_map, refl}
-use Rattle.segment_manager.proofs.Common.{slice_get, slice_get-map, slice_get_past, subst, sym, ℕ}
-use Rattle.segment_manager.proofs.Common.{◌∙◌, ◌≡◌, ◌≤◌, AnswersWith, DenotesCurrent, Directory, GoesOnNames, Instance}
-use Rattle.segment_manager.specs.indexes.Iterating.{names_of}
 use Rattle.segment_manager.proofs.indexes.iterating.NamesIterator.next.Goals as goal
+use Rattle.std.specs.Borrow.{Bor}
+use Rattle.segment_manager.proofs.Common.{AnswersWith, DenotesCurrent, Directory, Instance, List, Named, None, Object}
+use Rattle.segment_manager.proofs.Common.{Option, SaysAt, SegmentState, Some, ap, length, named_objects, objects_of}
+use Rattle.segment_manager.proofs.Common.{option_map, refl, slice_get, slice_get-map, slice_get_past, subst, sym, ℕ}
+use Rattle.segment_manager.proofs.Common.{◌∙◌, ◌≡◌, ◌≤◌}
+use Rattle.segment_manager.specs.indexes.Iterating.{GoesOnNames, NameWalk, Walk, YieldsInstance, names_of}
 
 -- the name of an object at a place of the list of named objects; after the last there is none
 name-said : {s : SegmentState} {at : ℕ} {said : Instance} → SaysAt s named_objects at said

@@ -1,9 +1,9 @@
 -- The next block of an object belongs to the next object. The number of objects in the tags is small.
-use Rattle.segment_manager.proofs.Common.{refl, sym, subst, ◌+◌, Some, None, rules, arith, IsSegment}
-use Rattle.segment_manager.specs.indexes.Iterating.{GoesOnObjects, ObjectWalk}
-use Rattle.segment_manager.proofs.blocks.OwnWalks.{block-at, none-left, owner-counts, owner-few, owner-here, owner-says}
-use Rattle.segment_manager.proofs.blocks.OwnWalks.{owner-short}
 use Rattle.segment_manager.proofs.objects.walking_objects.ObjectsIterator.next.Goals as goal
+use Rattle.segment_manager.proofs.Common.{IsSegment, None, Some, arith, refl, rules, subst, sym, ◌+◌}
+use Rattle.segment_manager.proofs.blocks.OwnBlocks.{block-at, none-left, owner-counts, owner-few, owner-here}
+use Rattle.segment_manager.proofs.blocks.OwnBlocks.{owner-says, owner-short}
+use Rattle.segment_manager.specs.indexes.Iterating.{GoesOnObjects, ObjectWalk}
 
 pub overflow_add-self : goal.overflow_add-self
 overflow_add-self c =

@@ -1,5 +1,5 @@
 -- An object is found under the entry, or made of items with one, or a block is refused.
-use Rattle.segment_manager.proofs.objects.finding_or_taking.find_or_take.Goals as goal
+use Rattle.segment_manager.proofs.objects.constructing_from.find_or_take.Goals as goal
 use Rattle.segment_manager.proofs.Common.{Err, IsObjectInBlock, Object, Scalar, ScalarKind, SegmentState, Write}
 use Rattle.segment_manager.proofs.Common.{exit-is, pair_of_kind, subst, sym, ◌≡◌}
 use Rattle.segment_manager.proofs.objects.Destroys.{found-answers, has-object, place-below, segment-index}

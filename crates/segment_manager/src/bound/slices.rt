@@ -297,13 +297,9 @@ impl<'a, T: Scalar> BoundMut<'a, Slice<T, Growable>> {
         SegVec::<T>::at(self.object.own_container()).insert(&mut segment.heap, index, value)
     }
 
-    /// Removes the element at `index`. The elements after it move down; the capacity stays.
+    /// Removes the element at `index`. The elements after it move down; the capacity stays. The error of `set` applies.
     ///
     /// Example: `queue.erase(0)?`.
-    ///
-    /// # Errors
-    ///
-    /// `OutOfRange` if `index` is not below the length. Nothing changes.
     #[inline(always)]
     pub fn erase(&mut self, index: u64) -> Result<()>
         ensures unchanged { SameBound self.old self.new }

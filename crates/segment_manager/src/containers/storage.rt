@@ -82,14 +82,9 @@ impl Segment {
         self.change_storage(key, Change::Shrink)
     }
 
-    /// Removes all elements of the vector or string. The capacity stays.
+    /// Removes all elements of the vector or string. The capacity stays. The errors of `shrink` apply.
     ///
     /// Example: `segment.clear(&name)?`.
-    ///
-    /// # Errors
-    ///
-    /// `ReadOnly` if the segment is open for reading. Otherwise `NotFound` if no object has the key, `WrongKind` if the
-    /// object has no storage. Nothing changes.
     #[inline(never)]
     pub fn clear<O: ObjectRef>(&mut self, key: &O) -> Result<(), Refusal>
         ensures step { TakesStep self.old self.new (Clear (O.key key.now)) (done_answer result) }
@@ -241,13 +236,9 @@ impl Segment {
         self.reserve_index(Index::Named, n)
     }
 
-    /// Grows the capacity of the index of kinds to `n` objects, if it is less.
+    /// Grows the capacity of the index of kinds to `n` objects, if it is less. The errors of `reserve_named` apply.
     ///
     /// Example: `segment.reserve_unique(8)?`.
-    ///
-    /// # Errors
-    ///
-    /// `ReadOnly` if the segment is open for reading. Otherwise `NoSpace` if no gap is long enough. Nothing changes.
     pub fn reserve_unique(&mut self, n: u64) -> Result<(), Refusal>
         ensures step { TakesStep self.old self.new (ReserveUnique n) (done_answer result) }
         ensures refused { OnErr result (self.new ≡ self.old) }

@@ -181,12 +181,6 @@ or-true : (b : Bool) → (b || true) ≡ true
 or-true true = refl
 or-true false = refl
 
-pub series-numbers : (k : ScalarKind) (ns : List ℤ) → numbers_if k (Numbers k ns) ≡ Ok ns
-series-numbers k ns =
-    ap (λ b. if same_kind (Vector k) (Scalar k) || b then Ok ns else Err WrongKind)
-    (eq-eqb (code_of (Scalar k)) (code_of (Scalar k)) refl)
-    ∙ ap (λ b. if b then Ok ns else Err WrongKind) (or-true (same_kind (Vector k) (Scalar k)))
-
 -- ---- an array
 
 module _ (old new : WindowState) (d : Directory) (key : Key) (o : Object) (k : ScalarKind) (ns : List ℤ) (first : ℕ)
@@ -262,7 +256,9 @@ module _ (s : SegmentState) (o : Located) (l : IsLocated s (ByHandle o.handle) o
     many h = ap (λ (q : Located). q.count) h.said ∙ ap count_of h.value
 
     series-of : {d : Directory} (h : HasNumbers d o k) → numbers_if k h.object.value ≡ Ok h.numbers
-    series-of h = ap (numbers_if k) h.value ∙ series-numbers k h.numbers
+    series-of h = ap (numbers_if k) h.value ∙ (ap (λ b. if same_kind (Vector k) (Scalar k) || b then Ok h.numbers else
+        Err WrongKind) (eq-eqb (code_of (Scalar k)) (code_of (Scalar k)) refl) ∙ ap (λ b. if b then Ok h.numbers else
+        Err WrongKind) (or-true (same_kind (Vector k) (Scalar k))))
 
     -- there are too few elements
     pub array-short : is_read_only s.mode ≡ false → nat_le (first + length zs) o.count ≡ false
@@ -450,11 +446,6 @@ behind-head b h at o head s said e =
     let there : at ≡ head_len + padded (length o.name) = e ∙ ap (λ (n : ℕ). head_len + padded n) said.name_len in
     λ i. record { handle = sym s.at i; at = sym there i }
 
-found-container : (d : Directory) (key : Key) (kind : Kind) (o : Object) (p : Place) → object_at d key ≡ Some o
-    → kind_of o.value ≡ kind → container_place o ≡ p → Ok p ≡ container_at d key kind
-found-container d key kind o p e f g = ap Ok (sym g) ∙ sym
-    (told-some d key kind placed o true e (eq-eqb (code_of kind) (code_of (kind_of o.value)) (ap code_of (sym f))))
-
 -- ---- the head
 
 -- the value after the head has elements of one length, or is a vector of texts, or a map
@@ -464,8 +455,9 @@ module _ {b : List ℕ} {h at : ℕ} {head : Head} (said : IsReadAt b h head)
   read-place : (kind : Kind) → head.kind ≡ kind → Ok (place_behind h at) ≡ container_at d (ByHandle h) kind
   read-place kind is =
       let there : IsObjectInBlock b h o = held-stands b h d o s e in
-      found-container d (ByHandle h) kind o (place_behind h at) e (sym (said o there).kind ∙ is)
-      (behind-head b h at o head there (said o there) behind)
+      (ap Ok (sym (behind-head b h at o head there (said o there) behind)) ∙ sym (told-some d (ByHandle h) kind placed
+      o true e (eq-eqb (code_of kind) (code_of (kind_of o.value)) (ap code_of (sym (sym (said o there).kind
+      ∙ is))))))
 
   read-elements : has_storage head.kind ≡ true → (head.kind ≡ StringsKind → ⊥)
       → HoldsElements b d (ByHandle h) head.kind (place_behind h at)

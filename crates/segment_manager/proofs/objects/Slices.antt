@@ -70,11 +70,6 @@ pub repeated-length : (n : ℕ) (bytes : List ℕ) → length (repeated n bytes)
 repeated-length zero bytes = omega arith
 repeated-length (suc n) bytes = omega (arith, length-append bytes (repeated n bytes), repeated-length n bytes)
 
--- one more copy
-pub repeated-more : (n : ℕ) (bytes : List ℕ) → repeated n bytes ++ bytes ≡ repeated (n + 1) bytes
-repeated-more n bytes = flat_map_more (λ (each : List ℕ). each) [] (replicate n bytes) bytes
-    ∙ ap (flat_map (λ (each : List ℕ). each)) (replicate_more n bytes)
-
 -- they spell equal numbers
 pub repeated-spelled : (k : ScalarKind) (n : ℕ) (z : ℤ) → repeated n (spelling k z) ≡ spelled k (replicate n z)
 repeated-spelled k zero z = refl
@@ -113,7 +108,8 @@ repeats-more {a} {b} {c} h at {i} {bytes} r s w =
     let front = bytes-stay (h + at) (repeated i bytes) s' (omega arith) r.content in
     record {
       change = subst (λ k. ChangesBytes current a c (h + at) k) sum (changed-trans r.change s');
-      content = subst (HasBytesAt (bytes_of c.bytes) (h + at)) (repeated-more i bytes)
+      content = subst (HasBytesAt (bytes_of c.bytes) (h + at)) (flat_map_more (λ (each : List ℕ). each) [] (replicate i
+          bytes) bytes ∙ ap (flat_map (λ (each : List ℕ). each)) (replicate_more i bytes))
           (HasBytesAt-append (bytes_of c.bytes) (h + at)
           (repeated i bytes) bytes front (subst (λ p. HasBytesAt (bytes_of c.bytes) p bytes) (omega arith) w));
     }

@@ -241,62 +241,7 @@ impl Segment {
         let (index, entry, name) = entry_of(&key);
         find_or_construct_entered(&mut self.heap, index, entry, name, filling)
     }
-}
 
-/// Fills a new object with its contents, and links its entry to it. If there is no space for its elements, it frees
-/// everything that was allocated for the object.
-#[inline(always)]
-pub(crate) fn build<F: ObjectInit>(
-    heap: &mut Heap,
-    begun: PendingObject,
-    filling: &F,
-) -> Result<Handle>
-    requires start { HasBegun heap.old (F.content filling.now) begun.handle begun.at begun.entry }
-    requires object { F.stands filling.now }
-    ensures { FillsObject heap.old heap.new begun.handle begun.at begun.entry (F.content filling.now) result }
-{
-    let place = Place {
-        handle: begun.handle,
-        at: begun.at,
-    };
-    let filled = filling.fill(heap, place);
-    finish_object(heap, begun, filled)
-}
-
-/// Returns the handle and the count of the object of an index entry, or makes the object. The segment of the heap is
-/// open for writing.
-fn find_or_construct_entered<F: ObjectInit>(
-    heap: &mut Heap,
-    index: Index,
-    entry: Entry<'_>,
-    name: &[u8],
-    filling: &F,
-) -> Result<(Handle, u32)>
-    requires segment { IsSegment heap.old.bytes }
-    requires object { F.stands filling.now }
-    requires key { (key : AnyKey) × IsNewKeyOf index entry key name.now (kind_of (bare (F.content filling.now))) }
-    ensures { (key : AnyKey) → IsNewKeyOf index entry.entry key name.now (kind_of (bare (F.content filling.now)))
-        → FindsOrConstructs heap.old heap.new key (F.content filling.now) result }
-{
-    let shape = filling.shape();
-    let place = match index.lookup(heap, entry, &mut Steps::new()) {
-        Lookup::Found(place) => return found_of(heap, index.at(heap, place), shape.kind),
-        Lookup::Absent(place) => place,
-    };
-    let begun = begin_at(heap, index, place, name, shape)?;
-    counted(build(heap, begun, filling), shape.count)
-}
-
-/// Returns a handle with the count of its object.
-#[inline(always)]
-pub(crate) fn counted(made: Result<Handle>, count: u32) -> Result<(Handle, u32)>
-    ensures { result ≡ with_count count made }
-{
-    let handle = made?;
-    Ok((handle, count))
-}
-
-impl Segment {
     /// Makes a vector of values, with a capacity of exactly their number, and returns its handle. A key with a kind
     /// must have the kind of this vector. The conditions and errors of `construct` apply, except for the count.
     ///
@@ -465,4 +410,57 @@ impl Segment {
     {
         self.find_or_construct_under(key, &NewMap { keys, values })
     }
+}
+
+/// Fills a new object with its contents, and links its entry to it. If there is no space for its elements, it frees
+/// everything that was allocated for the object.
+#[inline(always)]
+pub(crate) fn build<F: ObjectInit>(
+    heap: &mut Heap,
+    begun: PendingObject,
+    filling: &F,
+) -> Result<Handle>
+    requires start { HasBegun heap.old (F.content filling.now) begun.handle begun.at begun.entry }
+    requires object { F.stands filling.now }
+    ensures { FillsObject heap.old heap.new begun.handle begun.at begun.entry (F.content filling.now) result }
+{
+    let place = Place {
+        handle: begun.handle,
+        at: begun.at,
+    };
+    let filled = filling.fill(heap, place);
+    finish_object(heap, begun, filled)
+}
+
+/// Returns the handle and the count of the object of an index entry, or makes the object. The segment of the heap is
+/// open for writing.
+fn find_or_construct_entered<F: ObjectInit>(
+    heap: &mut Heap,
+    index: Index,
+    entry: Entry<'_>,
+    name: &[u8],
+    filling: &F,
+) -> Result<(Handle, u32)>
+    requires segment { IsSegment heap.old.bytes }
+    requires object { F.stands filling.now }
+    requires key { (key : AnyKey) × IsNewKeyOf index entry key name.now (kind_of (bare (F.content filling.now))) }
+    ensures { (key : AnyKey) → IsNewKeyOf index entry.entry key name.now (kind_of (bare (F.content filling.now)))
+        → FindsOrConstructs heap.old heap.new key (F.content filling.now) result }
+{
+    let shape = filling.shape();
+    let place = match index.lookup(heap, entry, &mut Steps::new()) {
+        Lookup::Found(place) => return found_of(heap, index.at(heap, place), shape.kind),
+        Lookup::Absent(place) => place,
+    };
+    let begun = begin_at(heap, index, place, name, shape)?;
+    counted(build(heap, begun, filling), shape.count)
+}
+
+/// Returns a handle with the count of its object.
+#[inline(always)]
+pub(crate) fn counted(made: Result<Handle>, count: u32) -> Result<(Handle, u32)>
+    ensures { result ≡ with_count count made }
+{
+    let handle = made?;
+    Ok((handle, count))
 }

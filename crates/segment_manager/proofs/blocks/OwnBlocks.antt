@@ -190,8 +190,8 @@ object-told format h o e =
     let role = first (same_role o.extent.role ObjectRole) (holds o.extent (object_len o.name o.value))
     (second (before && is_good_value o.value) serving e) in
     record {
-      own = ap (λ b. (handle o.extent == h) && b) role ∙ and_same (handle o.extent == h) ∙ (sym (eq-swap-if (handle
-          o.extent) h ((handle o.extent) == h) refl));
+      own = ap (λ b. (handle o.extent == h) && b) role ∙ and_same (handle o.extent == h)
+          ∙ sym (eq-swap-if (handle o.extent) h (handle o.extent == h) refl);
       value = value-none h o.value (second before (is_good_value o.value)
           (first (before && is_good_value o.value) serving e));
     }
@@ -315,9 +315,8 @@ own-spread p n (o ∷ os) t r a h =
 none-own : (xs : List Extent) → ((h : ℕ) → NonePasses (is_object_block h) xs) → NonePasses is_own xs
 none-own [] h = tt
 none-own (x ∷ xs) h = (
-  (sym (ap (λ b. b && is_own x) (eq-eqb (handle x) (handle x) refl)) ∙ (h (handle x)).0),
-  none-own
-      xs (λ n. (h n).1),
+  sym (ap (λ b. b && is_own x) (eq-eqb (handle x) (handle x) refl)) ∙ (h (handle x)).0,
+  none-own xs (λ n. (h n).1),
 )
 
 object-taken : (format : ℕ) (o : Object) → IsTrue (is_object format o) → IsTaken is_own o

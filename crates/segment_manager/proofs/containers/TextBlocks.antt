@@ -51,12 +51,12 @@ part-exchange o ps qs out in_place t u gone come e p f g =
       same = fs ++ bs;
       was = subst (λ (xs : List Extent). SameSpread xs (gone ++ (fs ++ bs))) before
           (subst (λ (xs : List Extent). SameSpread (a ++ (fs ++ (text_blocks out ++ bs))) (xs ++ (fs ++ bs))) (sym f)
-          (subst (SameSpread (a ++ (fs ++ ((text_blocks out) ++ bs)))) (sym (append_assoc a (text_blocks out) (fs ++
-          bs))) (spread-behind a (fs ++ ((text_blocks out) ++ bs)) ((text_blocks out) ++ (fs ++ bs)) (middle-first
+          (subst (SameSpread (a ++ (fs ++ (text_blocks out ++ bs)))) (sym (append_assoc a (text_blocks out) (fs ++
+          bs))) (spread-behind a (fs ++ (text_blocks out ++ bs)) (text_blocks out ++ (fs ++ bs)) (middle-first
           fs (text_blocks out) bs))));
       is = subst (SameSpread (come ++ (fs ++ bs))) after (subst (λ (xs : List Extent). SameSpread (xs ++ (fs ++ bs))
           (b ++ (fs ++ (text_blocks in_place ++ bs)))) (sym g) (subst (λ (ys : List Extent). SameSpread ys (b ++ (fs ++
-          ((text_blocks in_place) ++ bs)))) (sym (append_assoc b (text_blocks in_place) (fs ++ bs))) (spread-behind
-          b ((text_blocks in_place) ++ (fs ++ bs)) (fs ++ ((text_blocks in_place) ++ bs)) (middle-first
+          (text_blocks in_place ++ bs)))) (sym (append_assoc b (text_blocks in_place) (fs ++ bs))) (spread-behind
+          b (text_blocks in_place ++ (fs ++ bs)) (fs ++ (text_blocks in_place ++ bs)) (middle-first
           (text_blocks in_place) fs bs))));
     }

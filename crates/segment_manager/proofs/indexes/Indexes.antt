@@ -144,8 +144,7 @@ pub ordered-more : (c : Class) (lt : Object → Object → Bool) → IsStrict lt
 ordered-more c lt s d t u o e r h a b = subst (λ os. IsTrue (is_index t os lt)) (sym (ordered-put c lt s o d.objects e
     r)) (index-from t (insert_by lt o (ordered c lt d.objects)) lt a (omega (
       arith,
-      insert_by-length lt o (ordered c lt
-          d.objects),
+      insert_by-length lt o (ordered c lt d.objects),
     )) (insert_by-rises lt o (ordered c lt d.objects) (all-ordered (IsRanked lt o) c lt d.objects r)
     (index-parts u (ordered c lt d.objects) lt h).2))
 

@@ -66,14 +66,10 @@ impl Segment {
         self.change_storage(key, Change::Reserve(n))
     }
 
-    /// Shrinks the capacity of the vector or string to its length, as far as its block can be shortened.
+    /// Shrinks the capacity of the vector or string to its length, as far as its block can be shortened. The errors of
+    /// `reserve` apply, except for `NoSpace`.
     ///
     /// Example: `segment.shrink(&name)?`.
-    ///
-    /// # Errors
-    ///
-    /// `ReadOnly` if the segment is open for reading. Otherwise `NotFound` if no object has the key, `WrongKind` if the
-    /// object has no storage. Nothing changes.
     #[inline(never)]
     pub fn shrink<O: ObjectRef>(&mut self, key: &O) -> Result<(), Refusal>
         ensures step { TakesStep self.old self.new (Shrink (O.key key.now)) (done_answer result) }

@@ -1,9 +1,8 @@
 -- The pairs of a map one after another, for the crates that write them: the walk is at the pair with an index.
-use Rattle.segment_manager.proofs.Common.{AnswersWith, ByHandle, DenotesCurrent, Directory, IsMap, List, Map, None}
-use Rattle.segment_manager.proofs.Common.{NumberPair, Ok, Option, ScalarKind, ScalarValue, SegmentState, Some, [], ap}
-use Rattle.segment_manager.proofs.Common.{arith, first_of, item_of, item_of_kinds, kind_of_scalar, option_map}
-use Rattle.segment_manager.proofs.Common.{pair_above, pairs_at, refl, slice_get, suc, sym, value_of_scalar, zero, ℕ}
-use Rattle.segment_manager.proofs.Common.{◌+◌, ◌∙◌, ◌∷◌, ◌≡◌}
+use Rattle.segment_manager.proofs.Common.{AnswersWith, ByHandle, DenotesCurrent, Directory, List, None, NumberPair}
+use Rattle.segment_manager.proofs.Common.{Option, ScalarKind, ScalarValue, SegmentState, Some, [], ap, arith, first_of}
+use Rattle.segment_manager.proofs.Common.{item_of, item_of_kinds, kind_of_scalar, option_map, pair_above, pairs_at}
+use Rattle.segment_manager.proofs.Common.{refl, slice_get, suc, sym, value_of_scalar, zero, ℕ, ◌+◌, ◌∙◌, ◌∷◌, ◌≡◌}
 use Rattle.segment_manager.proofs.containers.PairNumbers.{first-at, walk-next}
 use Rattle.segment_manager.specs.{Parts.part_of, containers.Walks.KindedPair, containers.Walks.item_seen}
 -- what is read of a map is read of its pairs, and its first pair is the one from the least key on

@@ -4,8 +4,6 @@ pub(crate) mod constructing;
 pub(crate) mod constructing_from;
 pub(crate) mod destroying;
 pub(crate) mod finding;
-pub(crate) mod finding_or_constructing;
-pub(crate) mod finding_or_taking;
 pub(crate) mod head;
 pub(crate) mod instance_info;
 pub(crate) mod object_ref;

@@ -106,10 +106,6 @@ eq-swap-if : (a b : ℕ) (x : Bool) → (a == b) ≡ x → (b == a) ≡ x
 eq-swap-if a b true e = eq-eqb b a (sym (eqb-true a b e))
 eq-swap-if a b false e = ne_eqb b a (λ f. eqb-false a b e (sym f))
 
--- the test of equal numbers is symmetric
-pub eq-swap : (a b : ℕ) → (a == b) ≡ (b == a)
-eq-swap a b = sym (eq-swap-if a b (a == b) refl)
-
 -- ---- by the roles
 
 -- whether the extent is an object's own block with this handle
@@ -194,7 +190,8 @@ object-told format h o e =
     let role = first (same_role o.extent.role ObjectRole) (holds o.extent (object_len o.name o.value))
     (second (before && is_good_value o.value) serving e) in
     record {
-      own = ap (λ b. (handle o.extent == h) && b) role ∙ and_same (handle o.extent == h) ∙ eq-swap (handle o.extent) h;
+      own = ap (λ b. (handle o.extent == h) && b) role ∙ and_same (handle o.extent == h)
+          ∙ sym (eq-swap-if (handle o.extent) h (handle o.extent == h) refl);
       value = value-none h o.value (second before (is_good_value o.value)
           (first (before && is_good_value o.value) serving e));
     }
@@ -315,21 +312,17 @@ own-spread p n (o ∷ os) t r a h =
 
 -- ---- by the roles
 
-not-own : (x : Extent) → is_object_block (handle x) x ≡ false → is_own x ≡ false
-not-own x e = sym (ap (λ b. b && is_own x) (eq-eqb (handle x) (handle x) refl)) ∙ e
-
 none-own : (xs : List Extent) → ((h : ℕ) → NonePasses (is_object_block h) xs) → NonePasses is_own xs
 none-own [] h = tt
-none-own (x ∷ xs) h = (not-own x (h (handle x)).0, none-own xs (λ n. (h n).1))
-
-own-role : (x : Extent) → is_object_block (handle x) x ≡ (handle x == handle x) → is_own x ≡ true
-own-role x e =
-    let same : (handle x == handle x) ≡ true = eq-eqb (handle x) (handle x) refl in
-    sym (ap (λ b. b && is_own x) same) ∙ e ∙ same
+none-own (x ∷ xs) h = (
+  sym (ap (λ b. b && is_own x) (eq-eqb (handle x) (handle x) refl)) ∙ (h (handle x)).0,
+  none-own xs (λ n. (h n).1),
+)
 
 object-taken : (format : ℕ) (o : Object) → IsTrue (is_object format o) → IsTaken is_own o
 object-taken format o e = record {
-  own = own-role o.extent (object-told format (handle o.extent) o e).own;
+  own = (let same : (handle o.extent == handle o.extent) ≡ true = eq-eqb (handle o.extent) (handle o.extent) refl in
+      sym (ap (λ b. b && is_own o.extent) same) ∙ (object-told format (handle o.extent) o e).own ∙ same);
   value = none-own (value_extents o.value) (λ h. (object-told format h o e).value);
 }
 
@@ -361,10 +354,6 @@ gap-if : (b : Bool) (s : Span) → is_own_span s ≡ false → filter is_own_spa
 gap-if true s e = filter-past is_own_span s [] e
 gap-if false s e = refl
 
-no-gap : (a b : ℕ) (ss : List Span) → filter is_own_span (span_between a b ++ ss) ≡ filter is_own_span ss
-no-gap a b ss = filter-append is_own_span (span_between a b) ss ∙ ap (λ (gone : List Span). gone ++ filter is_own_span
-    ss) (gap-if (nat_lt a b) (record { offset = a; len = b - a; use_of = None }) refl)
-
 used-if : (b : Bool) (x : Extent) (xs : List Extent) {ss : List Span} → ss ≡ map as_used xs
     → cond b (as_used x ∷ ss) ss ≡ map as_used (cond b (x ∷ xs) xs)
 used-if true x xs e = ap (λ (rest : List Span). as_used x ∷ rest) e
@@ -373,7 +362,9 @@ used-if false x xs e = e
 spans-own : (from : ℕ) (xs : List Extent) (to : ℕ)
     → filter is_own_span (spans_from from xs to) ≡ map as_used (filter is_own xs)
 spans-own from [] to = gap-if (nat_lt from to) (record { offset = from; len = to - from; use_of = None }) refl
-spans-own from (x ∷ xs) to = no-gap from x.offset (as_used x ∷ spans_from (end_of x) xs to)
+spans-own from (x ∷ xs) to = (filter-append is_own_span (span_between from x.offset) (as_used x ∷ spans_from (end_of x)
+    xs to) ∙ ap (λ (gone : List Span). gone ++ filter is_own_span (as_used x ∷ spans_from (end_of x) xs to)) (gap-if
+    (nat_lt from x.offset) (record { offset = from; len = x.offset - from; use_of = None }) refl))
     ∙ used-if (is_own x) x (filter is_own xs) (spans-own (end_of x) xs to)
 
 -- the spans that objects own are their blocks

@@ -1,28 +1,27 @@
 -- The place of an object's elements: the result of reading its head and its container's words is its run.
 use Rattle.segment_manager.proofs.Common as common
 use Rattle.seg_types.specs.Commands as asked
-use Rattle.std.specs.{Option.unwrap_or, Prelude.IfOk}
+use Rattle.best_fit.{proofs.Laws.block_aligned, proofs.Laws.room-less, specs.Table.table_link}
 use Rattle.raw_region.proofs.Facts.{first, second}
-use Rattle.best_fit.proofs.Laws.{block_aligned, room-less}
-use Rattle.best_fit.specs.Table.{table_link}
-use Rattle.seg_vector.proofs.storage.Storage.{stands-room}
-use Rattle.seg_vector.specs.{Containers.ReservesStorageOk, Elements.RewritesElements, Elements.ShrinksStorageOk}
-use Rattle.segment_manager.proofs.{blocks.Blocks.spelling-length, objects.Rewritten.value_start}
-use Rattle.segment_manager.proofs.{containers.Safely.done-so, containers.Safely.stays, objects.Standings.standing-room}
-use Rattle.segment_manager.proofs.containers.{ItemSteps.then_room, ToChange.seen-found}
+use Rattle.seg_vector.specs.Elements.{RewritesElements, ShrinksStorageOk}
+use Rattle.seg_vector.{proofs.storage.Storage.stands-room, specs.Containers.ReservesStorageOk}
 use Rattle.segment_manager.proofs.containers.ContentPlans.{clear-plan, reserve-plan, shrink-plan}
 use Rattle.segment_manager.proofs.containers.ItemSteps.{HoldsAt, contents-fit, contents-stand, holds-at, of-contents}
 use Rattle.segment_manager.proofs.containers.ItemSteps.{one-kind, refill-steps_of_kind, room-asked, start-place}
-use Rattle.segment_manager.proofs.containers.KeptContainers.{enough-places, keeps-cut}
+use Rattle.segment_manager.proofs.containers.ItemSteps.{then_room}
+use Rattle.segment_manager.proofs.containers.{KeptContainers.keeps-cut, Safely.done-so, Safely.stays}
 use Rattle.segment_manager.proofs.directory.AnyDirectory.{by_no_change_of_kind, denotes-heap, denotes-live}
 use Rattle.segment_manager.proofs.directory.AnyDirectory.{open-writing, step_of_kind-found}
-use Rattle.segment_manager.proofs.directory.Frame.{object-roomy}
-use Rattle.segment_manager.proofs.objects.{Locating.same-object, Locating.told-by_key, Slices.HasBytesAt-element}
 use Rattle.segment_manager.proofs.objects.Destroys.{here, seen-handle, standing}
-use Rattle.segment_manager.specs.{containers.Contents.has_sizes, declared.containers.element_runs.ElementRun.ElementRun}
+use Rattle.segment_manager.proofs.objects.{Locating.same-object, Locating.told-by_key, Rewritten.value_start}
+use Rattle.segment_manager.proofs.objects.{Slices.HasBytesAt-element, Standings.standing-room}
+use Rattle.segment_manager.proofs.{blocks.Blocks.spelling-length, containers.KeptContainers.enough-places}
+use Rattle.segment_manager.proofs.{containers.ToChange.seen-found, directory.Frame.object-roomy}
 use Rattle.segment_manager.specs.containers.ElementRuns.{IsRunOf, run_at, run_in, run_of, spelled_in, storage_offset}
 use Rattle.segment_manager.specs.containers.Stored.{ChangesElements, IsElements, each_of}
 use Rattle.segment_manager.specs.objects.ElementLists.{numbers_in}
+use Rattle.segment_manager.specs.{containers.Contents.has_sizes, declared.containers.element_runs.ElementRun.ElementRun}
+use Rattle.std.specs.{Option.unwrap_or, Prelude.IfOk}
 use common.{AnswersWith, BackingArray, Bool, ByHandle, Bytes, Change, Clear, Command, Contents, Denotes, DenotesCurrent}
 use common.{Directory, Done, Elements, Err, Extent, HasBytesAt, HasEnough, IfSome, IsContainer, IsHeap, IsLocated}
 use common.{IsObjectInBlock, IsSegment, IsTrue, IsValueAt, Key, Kind, List, LiveSet, Located, MapKind, Memory, NoSpace}

@@ -67,11 +67,6 @@ module _ (o : Object) (v : Value) where
       (with_value o v) p ps n) ∙ remove-behind (handle o.extent) p (replace_object (with_value o v) ps) n
       ∙ ap (λ os. p ∷ os) k ∙ sym (remove-behind (handle o.extent) p ps n))
 
--- with the value that it had all are the same
-itself-replaced : (o : Object) (os : List Object) → IsFound (handle o.extent) os o → replace_object o os ≡ os
-itself-replaced o = by-place o (λ os. replace_object o os ≡ os) (λ p ps e same. replace-here o p ps e
-    ∙ ap (λ q. q ∷ ps) (sym same)) (λ p ps n k. replace-behind o p ps n ∙ ap (λ os. p ∷ os) k)
-
 -- ---- the directory
 
 module _ (d : Directory) (o : Object) (f : IsIn d o) where
@@ -85,7 +80,9 @@ module _ (d : Directory) (o : Object) (f : IsIn d o) where
 
   -- an object that is changed to itself leaves the directory
   pub changed-itself : (v : Value) → v ≡ o.value → changed d o v ≡ d
-  changed-itself v e = ap (changed d o) e ∙ ap (λ os. record d { objects = os }) (itself-replaced o d.objects f)
+  changed-itself v e = ap (changed d o) e ∙ ap (λ os. record d { objects = os }) ((by-place o (λ os. replace_object o
+      os ≡ os) (λ p ps e same. replace-here o p ps e ∙ ap (λ q. q ∷ ps) (sym same)) (λ p ps n k. replace-behind o p ps
+      n ∙ ap (λ os. p ∷ os) k)) d.objects f)
 
   -- the indexes are the same
   pub changed-entries : (i : Index) (v : Value) → kind_of v ≡ kind_of o.value

@@ -113,10 +113,6 @@ good-contents = of-contents (λ v c.
     is_good_value v ≡ (nat_le c.len c.table.capacity && has_backing Storage c.each c.table
     && has_values v)) (λ k zs t. refl) (λ bs t. refl)
 
-contents-long : (v : Value) (c : Contents) → contents_of v ≡ Some c → length c.bytes ≡ c.each * c.len
-contents-long =
-    of-contents (λ v c. length c.bytes ≡ c.each * c.len) (λ k zs t. spelled-length k zs) (λ bs t. omega arith)
-
 -- the contents of a good value fit its storage
 pub contents-fit : (v : Value) (c : Contents) → contents_of v ≡ Some c → IsTrue (is_good_value v) → Fits v c
 contents-fit v c e h =
@@ -126,7 +122,8 @@ contents-fit v c e h =
     record {
       table = second many serves front;
       fits = no_more c.len c.table.capacity (first many serves front);
-      long = contents-long v c e;
+      long = (of-contents (λ v c. length c.bytes ≡ c.each * c.len) (λ k zs t. spelled-length k zs) (λ bs t. omega
+          arith)) v c e;
       values = second (many && serves) (has_values v) all;
     }
 
@@ -142,12 +139,6 @@ contents-good v c e f t h = subst (λ (b : Bool). IsTrue b) (sym (good-contents 
     (and_from (nat_le c.len c.table.capacity && has_backing Storage c.each c.table) (has_values v)
     (and_from (nat_le c.len c.table.capacity) (has_backing Storage c.each c.table) (le-leb c.len c.table.capacity f)
     t) h)
-
--- memory has a value exactly if it has its contents
-contents-said : (m : Memory) (at : ℕ) (v : Value) (c : Contents) → contents_of v ≡ Some c → IsValueAt m at v
-    → IsContainerAt m at c.len c.table c.bytes
-contents-said m at =
-    of-contents (λ v c. IsValueAt m at v → IsContainerAt m at c.len c.table c.bytes) (λ k zs t h. h) (λ bs t h. h)
 
 -- memory has the value if it has its contents
 pub value-said : (m : Memory) (at : ℕ) (v : Value) (c : Contents) → contents_of v ≡ Some c
@@ -203,7 +194,8 @@ contents-stand b d key o c k e h =
     record {
       heap = denotes-heap current b d k;
       words = subst (λ at. IsContainerAt (bytes_of b) at c.len c.table c.bytes) (start-place o)
-          (contents-said (bytes_of b) (value_start o) o.value c h s.said.value);
+          ((of-contents (λ v c. IsValueAt (bytes_of b) (value_start o) v → IsContainerAt (bytes_of b) (value_start o)
+          c.len c.table c.bytes) (λ k zs t h. h) (λ bs t h. h)) o.value c h s.said.value);
       aligned = omega arith;
       room = standing-room b (handle o.extent) (16 + padded (length o.name) + 24) o s (omega (arith, len));
       table = good.table;

@@ -485,12 +485,6 @@ above-found (q ∷ front) p back r =
     ap (λ (b : Bool). if not (not b) then Some q else first_pair int_lt true p.key (front ++ p ∷ back))
     (not-above q.key p.key (below-end q front p back r)) ∙ above-found front p back (rest-rises q (front ++ p ∷ back) r)
 
--- the pair above a key is the next one
-walk-goes_on : (front : List NumberPair) (p : NumberPair) (back : List NumberPair)
-    → is_rising int_lt (front ++ p ∷ back) ≡ true
-    → pair_above p.key (front ++ p ∷ back) ≡ option_map item_of (first_of back)
-walk-goes_on front p back r = ap (option_map item_of) (above-found front p back r)
-
 -- ---- the pairs of a good value
 
 -- an object of the format has a good value
@@ -613,5 +607,6 @@ walk-next b d key i p k e =
     let rises : is_rising int_lt (s.front ++ p ∷ s.back) ≡ true =
     subst (λ (ps : List NumberPair). is_rising int_lt ps ≡ true) s.is (rises-if b d key (object_at d key) k refl) in
     let more : suc i ≡ i + 1 = omega arith in
-    ap (pair_above p.key) s.is ∙ walk-goes_on s.front p s.back rises ∙ ap (option_map item_of) (sym s.next)
+    ap (pair_above p.key) s.is ∙ (ap (option_map item_of) (above-found s.front p s.back rises)) ∙ ap (option_map
+    item_of) (sym s.next)
     ∙ ap (λ (m : ℕ). option_map item_of (slice_get (pairs_at d key) m)) more

@@ -1,36 +1,35 @@
 -- Elements of arrays and vectors that one call writes: the result in each directory.
 use Rattle.segment_manager.proofs.Common as common
-use Rattle.std.proofs.lemmas.{Bool.leb-false, List.Folds.list_all-append}
-use Rattle.std.proofs.lemmas.List.{drop-map, length-drop, length-take, nil_from_length, take-append-drop}
-use Rattle.std.specs.Prelude.{IfOk}
+use Rattle.best_fit.{proofs.Laws.gaps-payload, specs.Heap.KeepsGaps}
 use Rattle.raw_region.proofs.Bytes.{HasBytesAt-patched}
-use Rattle.best_fit.proofs.Laws.{gaps-payload}
-use Rattle.best_fit.specs.Heap.{KeepsGaps}
-use Rattle.seg_vector.proofs.storage.TypedVectors.{all-both, flat-replaced}
-use Rattle.seg_vector.specs.{Elements.FreesStorage, Elements.FreesStorageOk, TextsCalls.ReleasesTexts}
-use Rattle.seg_vector.specs.Containers.{IsStanding}
 use Rattle.seg_map.specs.Changing.{FreesAllPairs}
-use Rattle.segment_manager.proofs.{blocks.Blocks.spelled-length, blocks.Blocks.spelling-length, directory.LiveSet.IsIn}
+use Rattle.seg_vector.proofs.storage.TypedVectors.{all-both, flat-replaced}
+use Rattle.seg_vector.specs.TextsCalls.{ReleasesTexts}
+use Rattle.seg_vector.specs.{Containers.IsStanding, Elements.FreesStorage, Elements.FreesStorageOk}
+use Rattle.segment_manager.proofs.blocks.Blocks.{spelled-length, spelling-length}
 use Rattle.segment_manager.proofs.containers.ElementRuns.{HoldsElements, holds-elements, nothing-left}
 use Rattle.segment_manager.proofs.containers.Emptied.{IsEmptied, changed-itself, emptied-is, emptied-numbers}
 use Rattle.segment_manager.proofs.containers.ItemSteps.{Shape, contents-shape, good-with, placed, start-place}
 use Rattle.segment_manager.proofs.containers.ItemSteps.{told-some, value-said}
-use Rattle.segment_manager.proofs.containers.MapCalls.{HoldsPairs, holds-pairs}
-use Rattle.segment_manager.proofs.containers.MapSteps.{HoldsTexts, holds-texts}
-use Rattle.segment_manager.proofs.containers.Safely.{Performed, performed}
-use Rattle.segment_manager.proofs.directory.{AnyDirectory.stays-refl, Frame.object-roomy}
+use Rattle.segment_manager.proofs.containers.{MapCalls.HoldsPairs, MapCalls.holds-pairs, MapSteps.HoldsTexts}
+use Rattle.segment_manager.proofs.containers.{MapSteps.holds-texts, Safely.Performed, Safely.performed}
 use Rattle.segment_manager.proofs.directory.AnyDirectory.{IsMove, by_moves, by_same, denotes-heap, moves-same}
-use Rattle.segment_manager.proofs.objects.{Destroys.IsReadAt, Destroys.standing, Locating.said-at, Locating.same-object}
-use Rattle.segment_manager.proofs.objects.{KindCodes.code-read, KindCodes.numbers-only, Standings.standing-room}
+use Rattle.segment_manager.proofs.directory.AnyDirectory.{stays-refl}
 use Rattle.segment_manager.proofs.objects.Exchanged.{Exchange, between, denotes-container, denotes-rewritten}
 use Rattle.segment_manager.proofs.objects.RankedPairs.{all-found, each-true, found-handle, key-found}
-use Rattle.segment_manager.proofs.objects.Rewritten.{value_start, with_value}
 use Rattle.segment_manager.proofs.objects.Stored.{ElementAt, IsOfKind, element-found, numbers-good, numbers-object}
 use Rattle.segment_manager.proofs.objects.Stored.{whole-spelled, whole-values}
-use Rattle.segment_manager.specs.{containers.Stored.each_of, objects.ElementLists.numbers_in}
-use Rattle.segment_manager.specs.containers.{Maps.ReleasesPairs, Ranges.with_range, Ranges.written, Ranges.written_if}
+use Rattle.segment_manager.proofs.objects.{Destroys.standing, KindCodes.code-read, KindCodes.numbers-only}
+use Rattle.segment_manager.proofs.objects.{Locating.said-at, Locating.same-object, Rewritten.value_start}
+use Rattle.segment_manager.proofs.objects.{Rewritten.with_value, Standings.standing-room}
+use Rattle.segment_manager.proofs.{directory.Frame.object-roomy, directory.LiveSet.IsIn, objects.Destroys.IsReadAt}
 use Rattle.segment_manager.specs.containers.Ranges.{ChangesRange, WritesRange, numbers_if, range_in, replaced}
-use Rattle.segment_manager.specs.objects.{Located.located, Located.value_offset, Standing.offset_in, Standing.place_at}
+use Rattle.segment_manager.specs.containers.Ranges.{with_range, written, written_if}
+use Rattle.segment_manager.specs.containers.{Maps.ReleasesPairs, Stored.each_of}
+use Rattle.segment_manager.specs.objects.Standing.{offset_in, place_at}
+use Rattle.segment_manager.specs.objects.{ElementLists.numbers_in, Located.located, Located.value_offset}
+use Rattle.std.proofs.lemmas.List.{drop-map, length-drop, length-take, nil_from_length, take-append-drop}
+use Rattle.std.{proofs.lemmas.Bool.leb-false, proofs.lemmas.List.Folds.list_all-append, specs.Prelude.IfOk}
 use common.{Answer, BackingArray, Becomes, Bool, ByHandle, ChangesBytes, Denotes, DenotesCurrent, Directory, Done}
 use common.{Elements, Empties, Err, ExchangesBlocks, Extent, HasBytesAt, HasObject, HasPairs, Head, HoldsObject}
 use common.{IsHeadOf, IsLocated, IsObjectInBlock, IsSegment, IsTextsContainer, IsTrue, IsValueAt, Key, Kind, List}
@@ -182,12 +181,6 @@ or-true : (b : Bool) → (b || true) ≡ true
 or-true true = refl
 or-true false = refl
 
-pub series-numbers : (k : ScalarKind) (ns : List ℤ) → numbers_if k (Numbers k ns) ≡ Ok ns
-series-numbers k ns =
-    ap (λ b. if same_kind (Vector k) (Scalar k) || b then Ok ns else Err WrongKind)
-    (eq-eqb (code_of (Scalar k)) (code_of (Scalar k)) refl)
-    ∙ ap (λ b. if b then Ok ns else Err WrongKind) (or-true (same_kind (Vector k) (Scalar k)))
-
 -- ---- an array
 
 module _ (old new : WindowState) (d : Directory) (key : Key) (o : Object) (k : ScalarKind) (ns : List ℤ) (first : ℕ)
@@ -263,7 +256,9 @@ module _ (s : SegmentState) (o : Located) (l : IsLocated s (ByHandle o.handle) o
     many h = ap (λ (q : Located). q.count) h.said ∙ ap count_of h.value
 
     series-of : {d : Directory} (h : HasNumbers d o k) → numbers_if k h.object.value ≡ Ok h.numbers
-    series-of h = ap (numbers_if k) h.value ∙ series-numbers k h.numbers
+    series-of h = ap (numbers_if k) h.value ∙ (ap (λ b. if same_kind (Vector k) (Scalar k) || b then Ok h.numbers else
+        Err WrongKind) (eq-eqb (code_of (Scalar k)) (code_of (Scalar k)) refl) ∙ ap (λ b. if b then Ok h.numbers else
+        Err WrongKind) (or-true (same_kind (Vector k) (Scalar k))))
 
     -- there are too few elements
     pub array-short : is_read_only s.mode ≡ false → nat_le (first + length zs) o.count ≡ false
@@ -451,11 +446,6 @@ behind-head b h at o head s said e =
     let there : at ≡ head_len + padded (length o.name) = e ∙ ap (λ (n : ℕ). head_len + padded n) said.name_len in
     λ i. record { handle = sym s.at i; at = sym there i }
 
-found-container : (d : Directory) (key : Key) (kind : Kind) (o : Object) (p : Place) → object_at d key ≡ Some o
-    → kind_of o.value ≡ kind → container_place o ≡ p → Ok p ≡ container_at d key kind
-found-container d key kind o p e f g = ap Ok (sym g) ∙ sym
-    (told-some d key kind placed o true e (eq-eqb (code_of kind) (code_of (kind_of o.value)) (ap code_of (sym f))))
-
 -- ---- the head
 
 -- the value after the head has elements of one length, or is a vector of texts, or a map
@@ -465,8 +455,9 @@ module _ {b : List ℕ} {h at : ℕ} {head : Head} (said : IsReadAt b h head)
   read-place : (kind : Kind) → head.kind ≡ kind → Ok (place_behind h at) ≡ container_at d (ByHandle h) kind
   read-place kind is =
       let there : IsObjectInBlock b h o = held-stands b h d o s e in
-      found-container d (ByHandle h) kind o (place_behind h at) e (sym (said o there).kind ∙ is)
-      (behind-head b h at o head there (said o there) behind)
+      (ap Ok (sym (behind-head b h at o head there (said o there) behind)) ∙ sym (told-some d (ByHandle h) kind placed
+      o true e (eq-eqb (code_of kind) (code_of (kind_of o.value)) (ap code_of (sym (sym (said o there).kind
+      ∙ is))))))
 
   read-elements : has_storage head.kind ≡ true → (head.kind ≡ StringsKind → ⊥)
       → HoldsElements b d (ByHandle h) head.kind (place_behind h at)

@@ -1,7 +1,6 @@
 -- A call on the container of an object that answers nothing: its step, and that it changes nothing where it is refused.
 use Rattle.segment_manager.proofs.Common as common
-use Rattle.best_fit.proofs.Laws.{gaps-refl}
-use Rattle.best_fit.specs.Heap.{KeepsGaps}
+use Rattle.best_fit.{proofs.Laws.gaps-refl, specs.Heap.KeepsGaps}
 use Rattle.segment_manager.proofs.directory.AnyDirectory.{IsMove, by_moves, by_same, step-segment, step_of_kind-segment}
 use common.{Answer, AnswersSafely, Command, DenotesCurrent, Directory, Done, Err, IfErr, IsSegment, Key, Kind}
 use common.{MatchResult, Mode, NoSpace, Ok, OnErr, OutOfRange, Refusal, Refused, Result, SameSurroundings, SegmentState}

@@ -26,16 +26,6 @@ others-apart n (x ∷ xs) zs r =
 
 -- ---- the order of blocks
 
--- a part in the middle comes first, and back
-part-first : (ws fs xs bs : List Extent) → SameSpread (ws ++ (fs ++ (xs ++ bs))) ((ws ++ xs) ++ (fs ++ bs))
-part-first ws fs xs bs = subst (SameSpread (ws ++ (fs ++ (xs ++ bs)))) (sym (append_assoc ws xs (fs ++ bs)))
-    (spread-behind ws (fs ++ (xs ++ bs)) (xs ++ (fs ++ bs)) (middle-first fs xs bs))
-
-part-back : (ws fs xs bs : List Extent) → SameSpread ((ws ++ xs) ++ (fs ++ bs)) (ws ++ (fs ++ (xs ++ bs)))
-part-back ws fs xs bs =
-    subst (λ (ys : List Extent). SameSpread ys (ws ++ (fs ++ (xs ++ bs)))) (sym (append_assoc ws xs (fs ++ bs)))
-    (spread-behind ws (xs ++ (fs ++ bs)) (fs ++ (xs ++ bs)) (middle-first xs fs bs))
-
 -- ---- a part of the texts is replaced
 
 -- some texts replace others, between the same texts
@@ -61,7 +51,12 @@ part-exchange o ps qs out in_place t u gone come e p f g =
       same = fs ++ bs;
       was = subst (λ (xs : List Extent). SameSpread xs (gone ++ (fs ++ bs))) before
           (subst (λ (xs : List Extent). SameSpread (a ++ (fs ++ (text_blocks out ++ bs))) (xs ++ (fs ++ bs))) (sym f)
-          (part-first a fs (text_blocks out) bs));
+          (subst (SameSpread (a ++ (fs ++ (text_blocks out ++ bs)))) (sym (append_assoc a (text_blocks out) (fs ++
+          bs))) (spread-behind a (fs ++ (text_blocks out ++ bs)) (text_blocks out ++ (fs ++ bs)) (middle-first
+          fs (text_blocks out) bs))));
       is = subst (SameSpread (come ++ (fs ++ bs))) after (subst (λ (xs : List Extent). SameSpread (xs ++ (fs ++ bs))
-          (b ++ (fs ++ (text_blocks in_place ++ bs)))) (sym g) (part-back b fs (text_blocks in_place) bs));
+          (b ++ (fs ++ (text_blocks in_place ++ bs)))) (sym g) (subst (λ (ys : List Extent). SameSpread ys (b ++ (fs ++
+          (text_blocks in_place ++ bs)))) (sym (append_assoc b (text_blocks in_place) (fs ++ bs))) (spread-behind
+          b (text_blocks in_place ++ (fs ++ bs)) (fs ++ (text_blocks in_place ++ bs)) (middle-first
+          (text_blocks in_place) fs bs))));
     }

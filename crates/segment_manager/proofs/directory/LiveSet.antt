@@ -1,13 +1,13 @@
 -- Extents inserted by offset: a sorted list of them, and removing an inserted extent.
 use Rattle.segment_manager.proofs.Common as common
-use Rattle.raw_region.proofs.Facts.{AllByRecursion-behind, AllByRecursion-front}
 pub use Rattle.best_fit.proofs.Laws.{IsFresh, all_of-insert, all_of-inserted, apart-inserted, insert-inserted}
 pub use Rattle.best_fit.proofs.Laws.{inserted-comm, live-rises, rising-insert, rising-inserted, rising-weak}
 pub use Rattle.best_fit.proofs.Laws.{without-inserted}
 unfoldable pub use Rattle.best_fit.proofs.Laws.{Differs, Rising}
-use Rattle.best_fit.proofs.Laws.{AllByRecursion-insert_from, others-here, others-past}
 pub use Rattle.best_fit.specs.Exchange.{inserted, without_all}
+use Rattle.best_fit.proofs.Laws.{AllByRecursion-insert_from, others-here, others-past}
 use Rattle.best_fit.specs.Fit.{insert}
+use Rattle.raw_region.proofs.Facts.{AllByRecursion-append, AllByRecursion-behind, AllByRecursion-front}
 use common.{AllByRecursion, Bool, ByHandle, Directory, Extent, IsTrue, List, LiveSet, Object, Some, [], added, ap}
 use common.{append_assoc, arith, cond, cond-false, cond-true, eq-eqb, eqb-true, extents_of, false, find, flat_map}
 use common.{handle, has_key, if◌then◌else◌, is_proper, live, nat_lt, ne_eqb, others, put_object, refl, remove_object}
@@ -295,3 +295,17 @@ of_each P {d} h =
       named = AllByRecursion-front P (table_extents d.named) (table_extents d.unique) tables;
       unique = AllByRecursion-behind P (table_extents d.named) (table_extents d.unique) tables;
     }
+
+less-if : (P : Extent → Type 0) (b : Bool) (p : Object) (ps qs : List Object)
+    → AllByRecursion P (flat_map extents_of (p ∷ ps)) → AllByRecursion P (flat_map extents_of qs)
+    → AllByRecursion P (flat_map extents_of (if b then ps else p ∷ qs))
+less-if P true p ps qs a k = AllByRecursion-behind P (extents_of p) (flat_map extents_of ps) a
+less-if P false p ps qs a k = AllByRecursion-append P (extents_of p) (flat_map extents_of qs)
+    (AllByRecursion-front P (extents_of p) (flat_map extents_of ps) a) k
+
+-- a property of the blocks of all objects holds for the blocks of the others
+pub all-less : (P : Extent → Type 0) (h : ℕ) (os : List Object) → AllByRecursion P (flat_map extents_of os)
+    → AllByRecursion P (flat_map extents_of (remove_object h os))
+all-less P h [] a = a
+all-less P h (p ∷ ps) a = less-if P (h == handle p.extent) p ps (remove_object h ps) a
+    (all-less P h ps (AllByRecursion-behind P (extents_of p) (flat_map extents_of ps) a))

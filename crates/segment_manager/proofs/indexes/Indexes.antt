@@ -135,13 +135,6 @@ pub index-from : (t : BackingArray) (os : List Object) (lt : Object → Object �
 index-from t os lt a b c = and_from (has_backing Index 8 t && nat_le (length os) t.capacity) (rises lt os)
     (and_from (has_backing Index 8 t) (nat_le (length os) t.capacity) a (le-leb (length os) t.capacity b)) c
 
--- an index whose capacity allows one more is an index with the entry
-pub index-more : (lt : Object → Object → Bool) (t : BackingArray) (o : Object) (os : List Object)
-    → IsTrue (has_backing Index 8 t)
-    → length os < t.capacity → AllRanked lt o os → IsTrue (rises lt os) → IsTrue (is_index t (insert_by lt o os) lt)
-index-more lt t o os a b r h =
-    index-from t (insert_by lt o os) lt a (omega (arith, insert_by-length lt o os)) (insert_by-rises lt o os r h)
-
 -- the same for the order of a class, with an object that is ranked with each of the others
 pub ordered-more : (c : Class) (lt : Object → Object → Bool) → IsStrict lt
     → (d : Directory) (t u : BackingArray) (o : Object)
@@ -149,8 +142,11 @@ pub ordered-more : (c : Class) (lt : Object → Object → Bool) → IsStrict lt
     → IsTrue (is_index u (ordered c lt d.objects) lt) → IsTrue (has_backing Index 8 t)
     → length (ordered c lt d.objects) < t.capacity → IsTrue (is_index t (ordered c lt (with_object d o).objects) lt)
 ordered-more c lt s d t u o e r h a b = subst (λ os. IsTrue (is_index t os lt)) (sym (ordered-put c lt s o d.objects e
-    r)) (index-more lt t o (ordered c lt d.objects) a b (all-ordered (IsRanked lt o) c lt d.objects r) (index-parts u
-    (ordered c lt d.objects) lt h).2)
+    r)) (index-from t (insert_by lt o (ordered c lt d.objects)) lt a (omega (
+      arith,
+      insert_by-length lt o (ordered c lt d.objects),
+    )) (insert_by-rises lt o (ordered c lt d.objects) (all-ordered (IsRanked lt o) c lt d.objects r)
+    (index-parts u (ordered c lt d.objects) lt h).2))
 
 -- ---- one entry less
 

@@ -2,28 +2,28 @@
 use Rattle.segment_manager.proofs.Common as common
 use Rattle.seg_index.specs.declared.index.Index.TheVariants as index
 use Rattle.seg_types.specs.Commands as asked
-use Rattle.std.proofs.lemmas.List.{append-nil}
-use Rattle.raw_region.proofs.Facts.{AllByRecursion-append, AllByRecursion-behind, AllByRecursion-front}
-use Rattle.best_fit.proofs.Laws.{insert-comm}
-use Rattle.best_fit.specs.{Fit.gap_after, Fit.insert as insert_extent, Fit.room, Fit.shorter, Table.table_link}
+use Rattle.best_fit.specs.Fit.{gap_after, insert as insert_extent, room, shorter}
+use Rattle.best_fit.{proofs.Laws.insert-comm, specs.Table.table_link}
+use Rattle.raw_region.proofs.Facts.{AllByRecursion-behind, AllByRecursion-front}
 use Rattle.seg_index.proofs.Laws.{place_behind}
 use Rattle.seg_index.specs.Capacities.{KeepsRoomyIndex, ReservesIndexOk, ShrinksIndex, with_cut}
-use Rattle.segment_manager.proofs.{containers.Safely.Stepped, containers.Safely.stepped, objects.Regrown.differs-flip}
-use Rattle.segment_manager.proofs.directory.{Frame.header-same, Frame.index-stays, IndexedParts.ordered-with}
+use Rattle.segment_manager.proofs.containers.Safely.{Stepped, stepped}
 use Rattle.segment_manager.proofs.directory.AnyDirectory.{by_no_change, by_step, denotes-live, lands, open-writing}
 use Rattle.segment_manager.proofs.directory.AnyDirectory.{perform-new, perform-no_space, step-plan, step-reply}
 use Rattle.segment_manager.proofs.directory.Frame.{HasIndexes, KeepsFront, any_index-same, any_object-same}
 use Rattle.segment_manager.proofs.directory.Frame.{any_objects-same, denotes-put, denotes-taken, handles-length}
-use Rattle.segment_manager.proofs.directory.LiveSet.{Differs, IsIn, OfEach, Rising, adding, all_of-inserted}
+use Rattle.segment_manager.proofs.directory.Frame.{header-same, index-stays}
+use Rattle.segment_manager.proofs.directory.LiveSet.{Differs, IsIn, OfEach, Rising, adding, all-less, all_of-inserted}
 use Rattle.segment_manager.proofs.directory.LiveSet.{all_of-sorted, apart-inserted, insert-inserted, inserted}
 use Rattle.segment_manager.proofs.directory.LiveSet.{live-rises, live-without, of_each, others-insert, removing}
 use Rattle.segment_manager.proofs.directory.LiveSet.{rising-insert, rising-inserted, sorted-append}
-use Rattle.segment_manager.proofs.indexes.Bridge.{denotes-index, no-entry-removed}
 use Rattle.segment_manager.proofs.indexes.Indexes.{by_kind-strict, by_name-strict, index-from, index-parts, named-more}
 use Rattle.segment_manager.proofs.indexes.Indexes.{new-kind, new-name, ordered-more, unique-more}
 use Rattle.segment_manager.proofs.objects.Exchanged.{IsMade, allocated-found, taken-found, taken-live}
-use Rattle.segment_manager.proofs.objects.RankedPairs.{insert_by-length}
-use Rattle.segment_manager.specs.Step.{shrunk_indexes}
+use Rattle.segment_manager.proofs.{directory.IndexedParts.ordered-with, indexes.Bridge.denotes-index}
+use Rattle.segment_manager.proofs.{indexes.Bridge.no-entry-removed, objects.RankedPairs.insert_by-length}
+use Rattle.segment_manager.{proofs.objects.Regrown.differs-flip, specs.Step.shrunk_indexes}
+use Rattle.std.proofs.lemmas.List.{append-nil}
 use common.{AddKeeps, AddsEntry, AllByRecursion, AllocatesNoSpace, AllocatesOk, BackingArray, Bool, ByKind, ByName}
 use common.{Denotes, Directory, Done, EncodesLiveSet, Extent, HasIndex, Index, IndexRole, IsHeader, IsIndexAt}
 use common.{IsIndexOf, IsObjectAt, IsSegment, IsTrue, KeepsBlocks, KeepsOutsideIndex, Key, List, LiveSet, Memory}
@@ -32,12 +32,12 @@ use common.{SameBytes-part, SameBytes-trans, SameSurroundings, SameSurroundings-
 use common.{UniqueClass, WindowState, [], added, allocated-live, ap, append_assoc, arith, beside_table, blocks-trans}
 use common.{by_kind, by_name, bytes_of, capacity_at, cases_lt, class_code, class_of_index, current, effect, entries_of}
 use common.{eq-eqb, eqb-true, extent_at, extents_of, false, flat_map, grown_capacity, handle, handles, has_backing}
-use common.{if◌then◌else◌, index_at, inl, inr, insert, is_changing, is_class, is_index, is_object, is_proper}
-use common.{is_read_only, kind_of, lay_out_one, le-leb, length, link_at, list_all, live, live_of, lt-leb, nat_le}
-use common.{nat_lt, no_backing, object_at, objects_of, option_map, option_to_list, order_of, others, place}
-use common.{placed_is_proper, refl, released, remove_object, reserve_of, resized, rises_from, serves, shrunk_backing}
-use common.{sorted, subst, suc, sym, table_extents, table_of, true, with_object, with_table_of, without_index_block}
-use common.{without_link, without_object, ℕ, ◌&&◌, ◌*◌, ◌++◌, ◌+◌, ◌<◌, ◌==◌, ◌||◌, ◌∙◌, ◌∷◌, ◌≡◌, ◌≢◌, ◌≤◌, ◌⊎◌}
+use common.{if◌then◌else◌, index_at, inl, inr, insert, is_class, is_index, is_object, is_proper, is_read_only, kind_of}
+use common.{lay_out_one, le-leb, length, link_at, list_all, live, live_of, lt-leb, nat_le, nat_lt, no_backing}
+use common.{object_at, objects_of, option_map, option_to_list, order_of, others, place, placed_is_proper, refl}
+use common.{released, remove_object, reserve_of, resized, rises_from, serves, shrunk_backing, sorted, subst, suc, sym}
+use common.{table_extents, table_of, true, with_object, with_table_of, without_index_block, without_link}
+use common.{without_object, ℕ, ◌&&◌, ◌*◌, ◌++◌, ◌+◌, ◌<◌, ◌==◌, ◌||◌, ◌∙◌, ◌∷◌, ◌≡◌, ◌≢◌, ◌≤◌, ◌⊎◌}
 
 -- ---- one index, and the other
 
@@ -137,18 +137,11 @@ pub record OfRest (i : Index) (P : Extent → Type 0) (d : Directory) : Type 0 w
   pub objects : AllByRecursion P (flat_map extents_of d.objects)
   pub other_table : AllByRecursion P (table_extents (table_of (other i) d))
 
--- a property holds for the blocks outside the index if it holds for all blocks once the index has no table
-pub of_rest : (i : Index) (P : Extent → Type 0) {d : Directory}
-    → AllByRecursion P (live (with_table_of i d no_backing)).extents → OfRest i P d
-of_rest index.Named P {d} h =
-    let e = of_each P h in record { objects = e.objects; other_table = e.unique }
-of_rest index.Unique P {d} h =
-    let e = of_each P h in record { objects = e.objects; other_table = e.named }
-
--- a property of all blocks holds for all except the index's own
-pub of_all : (i : Index) (P : Extent → Type 0) {d : Directory} → AllByRecursion P (live d).extents → OfRest i P d
-of_all index.Named P {d} h = let e = of_each P h in record { objects = e.objects; other_table = e.unique }
-of_all index.Unique P {d} h = let e = of_each P h in record { objects = e.objects; other_table = e.named }
+-- a property holds for the blocks outside the index if it holds for all blocks with another table of the index
+pub of_rest : (i : Index) (P : Extent → Type 0) {d : Directory} (t : BackingArray)
+    → AllByRecursion P (live (with_table_of i d t)).extents → OfRest i P d
+of_rest index.Named P t h = let e = of_each P h in record { objects = e.objects; other_table = e.unique }
+of_rest index.Unique P t h = let e = of_each P h in record { objects = e.objects; other_table = e.named }
 
 -- the three words of the other index stay
 pub other-words : (i : Index) {m m' : Memory} → SameBytes m m' 32 (index_at i) → SameBytes m m' (index_at i + 24) 128
@@ -392,9 +385,10 @@ pub entered-denotes : {i : Index} (a : WindowState) {b c : WindowState} {d : Dir
 entered-denotes {i} a {b} {c} {d} {t} {o} k keeps good at class none e =
     let A = bytes_of a.bytes in let B = bytes_of b.bytes in
     let C = bytes_of c.bytes in let low = place_behind i in
-    let high = place-high i in let before = of_all i (SameBlock A B) keeps.blocks in
+    let high = place-high i in let before = of_rest i (SameBlock A B) (table_of i d)
+    (subst (λ e. AllByRecursion (SameBlock A B) (live e).extents) (sym (same-table i)) keeps.blocks) in
     let parts = all_of-inserted (SameBlock B C) (extents_of o) (live (with_table_of i d no_backing)).extents e.blocks in
-    let after = of_rest i (SameBlock B C) parts.1 in
+    let after = of_rest i (SameBlock B C) no_backing parts.1 in
     let all : OfRest i (SameBlock A C) d = record {
       objects = blocks-trans A B C (flat_map extents_of d.objects) before.objects after.objects;
       other_table = blocks-trans A B C _ before.other_table after.other_table;
@@ -509,7 +503,7 @@ pub tabled-denotes : {i : Index} {a c : WindowState} {d : Directory} {t : Backin
     → IsTabled i a c d t → Denotes current c.bytes (with_table_of i d t)
 tabled-denotes {i} {a} {c} {d} {t} k e =
     let A = bytes_of a.bytes in let C = bytes_of c.bytes in
-    let high = place-high i in let rest = of_rest i (SameBlock A C) e.keeps.blocks in
+    let high = place-high i in let rest = of_rest i (SameBlock A C) no_backing e.keeps.blocks in
     let one = other-stays i (has-one (other i) k) (other-words i e.keeps.before e.keeps.behind) rest.other_table in
     let few : length (objects_of i d) ≤ t.capacity = omega (arith, e.stands.few, handles-length (objects_of i d)) in
     let is = index-from t (objects_of i d) (order_of i) e.stands.slots few
@@ -646,20 +640,6 @@ pub record IsLeft (i : Index) (old new : WindowState) (t : BackingArray) (hs : L
   pub stands : IsIndexOf new (index_at i) t hs
   pub keeps : KeepsOutsideIndex old new (index_at i) (beside_table t (live_of old.bytes).extents)
 
-less-if : (P : Extent → Type 0) (b : Bool) (p : Object) (ps qs : List Object)
-    → AllByRecursion P (flat_map extents_of (p ∷ ps)) → AllByRecursion P (flat_map extents_of qs)
-    → AllByRecursion P (flat_map extents_of (if b then ps else p ∷ qs))
-less-if P true p ps qs a k = AllByRecursion-behind P (extents_of p) (flat_map extents_of ps) a
-less-if P false p ps qs a k = AllByRecursion-append P (extents_of p) (flat_map extents_of qs)
-    (AllByRecursion-front P (extents_of p) (flat_map extents_of ps) a) k
-
--- a property of the blocks of all objects holds for the blocks of the others
-all-less : (P : Extent → Type 0) (h : ℕ) (os : List Object) → AllByRecursion P (flat_map extents_of os)
-    → AllByRecursion P (flat_map extents_of (remove_object h os))
-all-less P h [] a = a
-all-less P h (p ∷ ps) a = less-if P (h == handle p.extent) p ps (remove_object h ps) a
-    (all-less P h ps (AllByRecursion-behind P (extents_of p) (flat_map extents_of ps) a))
-
 -- ---- the two indexes then
 
 -- the facts about both indexes of a directory without an object
@@ -694,7 +674,7 @@ removed-denotes {i} {a} {b} {c} {d} o k f class e g =
     ap (λ l. removing l (extents_of o)) mid ∙ sym (live-without d o f k.directory.proper) in
     let after =
     of_each (SameBlock B C) (subst (λ (l : LiveSet). AllByRecursion (SameBlock B C) l.extents) others g.keeps.blocks) in
-    let before = of_rest i (SameBlock A B) (subst (AllByRecursion (SameBlock A B))
+    let before = of_rest i (SameBlock A B) no_backing (subst (AllByRecursion (SameBlock A B))
     (ap (λ (l : LiveSet). beside_table (table_of i d) l.extents) now
     ∙ index-left_out i d [] (live-rises (live d) k.directory.proper)) e.keeps.blocks) in
     let blocks = blocks-trans A B C (flat_map extents_of (remove_object (handle o.extent) d.objects))
@@ -716,11 +696,6 @@ removed-denotes {i} {a} {b} {c} {d} o k f class e g =
     denotes-taken o k f laid front blocks both.named both.unique
 
 -- The calls that give the indexes other capacities, as steps of the machine.
-
--- reserving places is a change
-pub reserve-changes : (i : Index) (n : ℕ) → is_changing (reserve_of i n) ≡ true
-reserve-changes index.Named n = refl
-reserve-changes index.Unique n = refl
 
 abbrev take_places : Index → Directory → ℕ → Plan
 take_places i d n = Request (New IndexRole (8 * n)) (λ x. Reply Done (with_table_of i d (places_in n x)))

@@ -2,33 +2,33 @@
 use Rattle.segment_manager.proofs.Common as common
 use Rattle.seg_types.specs.Commands as asked
 use Rattle.byteorder.specs.Endian.{little_number}
-use Rattle.std.proofs.lemmas.List.{append-nil, length-append, map_push}
-use Rattle.std.specs.{Bool.then_some, Iterator.HoldsAlong, Iterator.YieldsFirst, Iterator.YieldsThen, Option.ok_or}
-use Rattle.raw_region.proofs.{Bytes.HasBytesAt-append, Facts.AllByRecursion-behind, Facts.first, Facts.second}
 use Rattle.link_tree.specs.Tree.{IsTree}
-use Rattle.seg_types.proofs.Laws.{all_spell_one}
-use Rattle.seg_types.specs.{Kinds.is_spelling, Kinds.value_of, Values.SpelledBy}
-use Rattle.seg_types.specs.declared.kinds.Class.TheVariants.{Named, Unique}
-use Rattle.seg_vector.proofs.storage.TypedVectors.{all-at, has-element}
+use Rattle.raw_region.proofs.Facts.{first, second}
 use Rattle.seg_map.specs.Changing.{InitsMap}
-use Rattle.segment_manager.proofs.{indexes.Bridge.by-handle, objects.Exchanged.bytes-stay, objects.Standings.alike}
-use Rattle.segment_manager.proofs.blocks.{Blocks.spelled-length, Blocks.spelling-length, NewBlocks.changed-trans}
-use Rattle.segment_manager.proofs.containers.{Changeable.answered-reads, TextAnswers.byte-value}
+use Rattle.seg_types.specs.declared.kinds.Class.TheVariants.{Named, Unique}
+use Rattle.seg_types.{proofs.Laws.all_spell_one, specs.Kinds.is_spelling, specs.Kinds.value_of, specs.Values.SpelledBy}
+use Rattle.seg_vector.proofs.storage.TypedVectors.{all-at, has-element}
 use Rattle.segment_manager.proofs.containers.ElementRuns.{HasRun, IsElementAt, element-in, has-if}
 use Rattle.segment_manager.proofs.containers.RangeCalls.{range_with, replaced-length, slice_in}
-use Rattle.segment_manager.proofs.directory.{AnyDirectory.with-found, Frame.object-roomy}
 use Rattle.segment_manager.proofs.directory.AnyDirectory.{IsAnother, Leaves, by_answer, by_change, by_other, by_refusal}
 use Rattle.segment_manager.proofs.directory.AnyDirectory.{by_request, extended-leaves, plan-leaves, plan_of_kind-leaves}
-use Rattle.segment_manager.proofs.objects.{Constructed.equal-good, Slices.HasBytesAt-element, Slices.repeated-spelled}
+use Rattle.segment_manager.proofs.directory.AnyDirectory.{with-found}
 use Rattle.segment_manager.proofs.objects.Destroys.{handle-if, here, object-passes, standing}
-use Rattle.segment_manager.specs.{Calls.scalar_reply, declared.containers.element_runs.ElementRun.ElementRun}
-use Rattle.segment_manager.specs.{State.UnchangedIfRefused, State.scalar_answer, objects.PendingObjects.WritesItem}
-use Rattle.segment_manager.specs.{Staying.KeepsObjects, Staying.ObjectsStay, objects.ElementLists.numbers_in}
+use Rattle.segment_manager.proofs.objects.{Slices.HasBytesAt-element, Slices.repeated-spelled, Standings.alike}
+use Rattle.segment_manager.proofs.{blocks.Blocks.spelling-length, containers.Changeable.answered-reads}
+use Rattle.segment_manager.proofs.{containers.TextAnswers.byte-value, directory.Frame.object-roomy}
+use Rattle.segment_manager.proofs.{indexes.Bridge.by-handle, objects.Constructed.equal-good}
+use Rattle.segment_manager.specs.Staying.{KeepsObjects, ObjectsStay}
 use Rattle.segment_manager.specs.containers.ElementRuns.{IsRunOf, run_at, run_in, run_of, spelled_in, storage_offset}
 use Rattle.segment_manager.specs.containers.Ranges.{ExtendsVector, WritesRange, extended, is_slice, range_at, range_in}
 use Rattle.segment_manager.specs.containers.Ranges.{replaced as replaced_range, with_range, written, written_if}
+use Rattle.segment_manager.specs.declared.containers.element_runs.ElementRun.{ElementRun}
 use Rattle.segment_manager.specs.declared.modes.Mode.TheVariants.{CopyOnWrite, ReadOnly}
-use Rattle.segment_manager.specs.objects.{Items.KeepsUnasked, Items.TakesUntil, Located.located, Located.located_at}
+use Rattle.segment_manager.specs.objects.Located.{located, located_at}
+use Rattle.segment_manager.specs.objects.{ElementLists.numbers_in, Items.KeepsUnasked, Items.TakesUntil}
+use Rattle.segment_manager.specs.{Calls.scalar_reply, State.UnchangedIfRefused, State.scalar_answer}
+use Rattle.std.specs.{Iterator.YieldsFirst, Iterator.YieldsThen, Option.ok_or}
+use Rattle.std.{proofs.lemmas.List.append-nil, proofs.lemmas.List.length-append, specs.Bool.then_some}
 use common.{AllByRecursion, Anonymous, Answer, AnswersWith, BackingArray, Bool, ByHandle, Bytes, ChangesBytes, Class}
 use common.{Command, ConstructsFromItems, Content, Denotes, DenotesCurrent, Directory, Element, Elements}
 use common.{EncodesLiveSet, Err, ExchangesBlocks, Exists, Extent, HasBytesAt, IfErr, IsDirectory, IsSegment, IsTrue}
@@ -36,17 +36,16 @@ use common.{Key, Kind, LeadsOnOfKind, List, LiveSet, Located, Made, MakesValueOk
 use common.{NoSpace, None, NotFound, Numbers, Object, ObjectRole, Ok, Option, OutOfRange, OwnedText, Pairs, Place}
 use common.{Plain, Plan, ReadOnly, Refusal, Refuse, Refused, Reply, Request, Result, SameBlockExcept, ScalarKind}
 use common.{ScalarValue, SegmentState, Some, TakesStep, Texts, Transitions, Tree, U8, Value, WindowState, Write}
-use common.{WrongKind, Yields, [], and_from, ap, arith, bytes_of, cells_of, changed, class_of, cond, count_of, current}
-use common.{drop, elements_of, eq-eqb, false, false≢true, find, flat_map, flat_map_more, fork, get, handle}
-use common.{handle_answer, handle_at, has_key, head_len, if◌then◌else◌, is_elementwise, is_good_value, is_object_at}
-use common.{is_read_only, is_some, is_untouched, is_value, kind_of, laid-heap, le-ltb, leaf, leb-true, length}
-use common.{length-map, length-replicate, list_all, live, live_of, lt-ltb, ltb-true, map, met, name_of, named_objects}
-use common.{nat_le, nat_lt, nodes_of, not, object_at, object_len, option_map, padded, perform, place_at, plan, pos}
-use common.{put_object, read, refl, repeated, replace_object, replicate, resized, same_Some, size_of, slice_get}
-use common.{slice_get-map, slice_get_past, spelled, spelling, step, step_of_kind, subst, sym, take, take_all, true}
-use common.{unique_objects, with, with_entry, with_items, with_new_object, with_object, with_owned_text}
-use common.{with_owned_texts, with_spare_entry, with_storage, with_value, ℕ, ℤ, ◌&&◌, ◌*◌, ◌++◌, ◌+◌, ◌<◌, ◌==◌, ◌∙◌}
-use common.{◌∷◌, ◌≡◌, ◌≤◌}
+use common.{WrongKind, Yields, [], ap, arith, bytes_of, cells_of, changed, class_of, cond, count_of, current, drop}
+use common.{elements_of, eq-eqb, false, false≢true, find, flat_map, fork, get, handle, handle_answer, handle_at}
+use common.{has_key, head_len, if◌then◌else◌, is_elementwise, is_good_value, is_object_at, is_read_only, is_some}
+use common.{is_untouched, is_value, kind_of, laid-heap, le-ltb, leaf, leb-true, length, length-map, length-replicate}
+use common.{list_all, live, live_of, lt-ltb, ltb-true, map, met, name_of, named_objects, nat_le, nat_lt, nodes_of, not}
+use common.{object_at, object_len, option_map, padded, perform, place_at, plan, pos, put_object, read, refl, repeated}
+use common.{replace_object, replicate, resized, same_Some, size_of, slice_get, slice_get-map, slice_get_past, spelled}
+use common.{spelling, step, step_of_kind, subst, sym, take, take_all, true, unique_objects, with, with_entry}
+use common.{with_items, with_new_object, with_object, with_owned_text, with_owned_texts, with_spare_entry, with_storage}
+use common.{with_value, ℕ, ℤ, ◌&&◌, ◌*◌, ◌++◌, ◌+◌, ◌<◌, ◌==◌, ◌∙◌, ◌∷◌, ◌≡◌, ◌≤◌}
 
 -- ---- the items
 
@@ -684,78 +683,6 @@ module _ (s : SegmentState) (key : Key) (i : ℕ) where
           (ap (λ (bs : List ℕ). value_of run.kind (little_number (size_of run.kind) bs)) is ∙ there.value)
           ∙ sym (replies d l (Some one.0) one.1);
     }
-
--- Items taken from an iterator and written one after another.
-
--- ---- calls, and then one more
-
-pub yields-more : {S A : Type 0} (steps : S → Option A → S → Type 0) (s t u : S) (xs : List A) (x : A)
-    → Yields steps s xs t → steps t (Some x) u → Yields steps s (xs ++ x ∷ []) u
-yields-more steps s t u [] x e f = (u, subst (λ r. steps r (Some x) u) (sym e) f, refl)
-yields-more steps s t u (y ∷ ys) x h f = (h.0, h.1, yields-more steps h.0 t u ys x h.2 f)
-
--- a property of all possible items holds for the last one
-pub last-holds : {S A : Type 0} (steps : S → Option A → S → Type 0) (P : A → Type 0) (s t u : S) (xs : List A) (x : A)
-    → HoldsAlong steps s (AllByRecursion P) → Yields steps s xs t → steps t (Some x) u → P x
-last-holds steps P s t u xs x all h f =
-    (AllByRecursion-behind P xs (x ∷ []) (all (xs ++ x ∷ []) u (yields-more steps s t u xs x h f))).0
-
--- a test holds of one more
-all-more : (t : ℤ → Bool) (zs : List ℤ) (z : ℤ) → IsTrue (list_all t zs) → IsTrue (t z)
-    → IsTrue (list_all t (zs ++ z ∷ []))
-all-more t [] z h e = and_from (t z) true e refl
-all-more t (y ∷ ys) z h e = and_from (t y) (list_all t (ys ++ z ∷ [])) (first (t y) (list_all t ys) h)
-    (all-more t ys z (second (t y) (list_all t ys) h) e)
-
--- ---- this many items were written
-
--- an object that is being filled: the items so far, and the bytes
-pub record IsFilling {S A : Type 0} (gives : S → Option A → S → Type 0) (can : S → Type 0) (whole : A → ℤ)
-    (old now : WindowState) (k : ScalarKind) (from i : ℕ) (before at : S) : Type 0 where
-  pub items : List A
-  pub ran : Yields gives before items at
-  pub long : length items ≡ i
-  pub callable : can at
-  pub values : IsTrue (list_all (is_value k) (map whole items))
-  pub change : ChangesBytes current old now from (size_of k * i)
-  pub content : HasBytesAt (bytes_of now.bytes) from (spelled k (map whole items))
-
-module _ (S : Type 0) {A : Type 0} {gives : S → Option A → S → Type 0} {can : S → Type 0} {whole : A
-    → ℤ} {old : WindowState}
-    {k : ScalarKind} {from : ℕ} {before : S} where
-  -- and one more
-  pub filling-more : {b c : WindowState} {i to : ℕ} {s t : S}
-      → IsFilling gives can whole old b k from i before s → can t → to ≡ from + size_of k * i
-      → WritesItem gives whole b c k to s t → IsFilling gives can whole old c k from (i + 1) before t
-  filling-more {b} {c} {i} {to} {s} {t} f go at w =
-      let zs = map whole f.items in let bytes = spelling k (whole w.item) in
-      let more = map_push whole f.items w.item in let each = spelling-length k (whole w.item) in
-      let all = spelled-length k zs ∙ ap (λ m. size_of k * m) (length-map f.items whole ∙ f.long) in
-      let sum : size_of k * i + size_of k ≡ size_of k * (i + 1) = omega arith in
-      let change' : ChangesBytes current b c (from + size_of k * i) (size_of k) =
-      subst (λ p. ChangesBytes current b c p (size_of k)) at w.change in
-      let front = bytes-stay from (spelled k zs) change' (omega arith) f.content in
-      let place : to ≡ from + length (spelled k zs) = omega arith in
-      record {
-        items = f.items ++ w.item ∷ [];
-        ran = yields-more gives before s t f.items w.item f.ran w.step;
-        long = length-append f.items (w.item ∷ []) ∙ ap (λ m. m + 1) f.long;
-        callable = go;
-        values = subst (λ ys. IsTrue (list_all (is_value k) ys)) (sym more)
-            (all-more (is_value k) zs (whole w.item) f.values w.value);
-        change = subst (ChangesBytes current old c from) sum (changed-trans f.change change');
-        content = subst (HasBytesAt (bytes_of c.bytes) from) (flat_map_more (spelling k) [] zs (whole w.item)
-            ∙ ap (spelled k) (sym more)) (HasBytesAt-append (bytes_of c.bytes) from (spelled k zs) bytes front
-            (subst (λ p. HasBytesAt (bytes_of c.bytes) p bytes) place w.content));
-      }
-
--- a property of each item holds for the possible ones
-pub always-holds : {S A : Type 0} (steps : S → Option A → S → Type 0) (P : A → Type 0) (s : S) → ((x : A) → P x)
-    → HoldsAlong steps s (AllByRecursion P)
-always-holds {S = S} {A = A} steps P s each xs t ran = every xs where
-  every : (xs : List A) → AllByRecursion P xs
-  every [] = tt
-  every (x ∷ xs) = (each x, every xs)
 
 -- Numbers as the value of a new object, and a map without pairs: they ask for no block but the object's own.
 

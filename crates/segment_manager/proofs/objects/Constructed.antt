@@ -3,44 +3,38 @@ use Rattle.segment_manager.proofs.Common as common
 use Rattle.seg_types.specs.Names as names
 use Rattle.seg_index.specs.declared.index.Index.TheVariants as index
 use Rattle.seg_types.specs.Commands as asked
-use Rattle.seg_types.specs.declared.kinds.Class.TheVariants as class
-use Rattle.seg_index.specs.declared.keys.Entry.TheVariants as entry
 use Rattle.best_fit.proofs.Laws.{AllByRecursion-insert}
 use Rattle.seg_index.proofs.Laws.{ObjectStays, belongs-at, keeps-sorted, place_behind, place_small, stays-trans}
 use Rattle.seg_index.specs.{Growth.grown_live, Sorted.BelongsAt, Sorted.IsKeyOf}
-use Rattle.segment_manager.proofs.{indexes.Bridge.own-name, indexes.Bridge.seeks-sort, objects.Destroys.of-directory}
-use Rattle.segment_manager.proofs.{indexes.Indexes.same-itself, objects.Heads.name-short, objects.Heads.object-entry}
-use Rattle.segment_manager.proofs.blocks.NewBlocks.{allocated-serves}
 use Rattle.segment_manager.proofs.directory.AnyDirectory.{denotes-kept, denotes-live, perform-new, perform-no_space}
-use Rattle.segment_manager.proofs.directory.Frame.{denotes-with, handles-length}
 use Rattle.segment_manager.proofs.directory.LiveSet.{adding, live-rises, resized-fresh, rising-insert}
-use Rattle.segment_manager.proofs.indexes.Bridge.{denotes-index, denotes-sorted, entry-added, lookup-absent, own-kind}
+use Rattle.segment_manager.proofs.indexes.Bridge.{denotes-index, denotes-sorted, entry-added, lookup-absent, seeks-sort}
 use Rattle.segment_manager.proofs.indexes.OtherTables.{IsEntered, entered-denotes, entered-none, entered-some}
 use Rattle.segment_manager.proofs.indexes.OtherTables.{grown_into, key_in, same-table}
-use Rattle.segment_manager.proofs.objects.{Exchanged.taken-growth, Exchanged.taken-index, KindCodes.known-kind}
-use Rattle.segment_manager.proofs.objects.Destroys.{ForIndex, IsHere, IsReadAt, handle-answers, has-object, here}
 use Rattle.segment_manager.proofs.objects.Exchanged.{IsMade, IsTaken, empty-taken, growth-index, growth-stays, made-key}
 use Rattle.segment_manager.proofs.objects.Exchanged.{made-object, made-stays, made-taken, placed-next, restored-taken}
-use Rattle.segment_manager.specs.{containers.Filled.IsDenied, containers.Filled.IsGiven, objects.NewObjects.FindsNone}
+use Rattle.segment_manager.proofs.objects.Exchanged.{taken-growth, taken-index}
+use Rattle.segment_manager.proofs.objects.{Heads.name-short, Heads.object-entry, KindCodes.known-kind}
+use Rattle.segment_manager.proofs.{blocks.NewBlocks.allocated-serves, directory.Frame.denotes-with}
+use Rattle.segment_manager.proofs.{directory.Frame.handles-length, indexes.Indexes.same-itself}
 use Rattle.segment_manager.specs.objects.PendingObjects.{AddsPendingEntry, BeginsAnonymous, BeginsEntryOk, GivesAllBack}
 use Rattle.segment_manager.specs.objects.PendingObjects.{IsReadyFor, IsReadyForEntry}
-use common.{Absent, AddKeeps, AddsEntry, AllocatesOk, Anonymous, AnswersWith, BackingArray, BeginsObjectOk, Bool}
-use common.{ChangesBytes, Class, Code, Content, Denotes, DenotesCurrent, Directory, EncodesLiveSet, Entry, Extent}
-use common.{FindsPosition, HasEntries, HasIndexEntry, HasObject, Head, Index, IndexRole, IsAbsentAt, IsAnonymousAt}
-use common.{IsEntry, IsIndexOf, IsNewKeyOf, IsObjectInBlock, IsSegment, IsTrue, KeepsBlocks, Kind, LeadsThere, List}
-use common.{LiveSet, MakesValueErr, MakesValueOk, Memory, Name, Named, New, NoSpace, None, Numbers, Object, ObjectRole}
-use common.{Option, PendingEntry, Plan, PreparesOk, Refusal, Refused, Request, RequestsBlocksOk, RestoresBlocks, Role}
-use common.{SameSurroundings, SameSurroundings-trans, Scalar, ScalarKind, Seeks, SegmentState, Some, Unique, Value}
-use common.{WindowState, WritesObjectHeader, WritesUnindexedObject, [], added, allocated-live, and_from, ap, arith}
-use common.{bare, bytes_of, class_code, class_of, class_of_index, code_of, count_of, current, entries_of, entry_count}
-use common.{eq-eqb, extents_of, false, find, grown_bytes, grown_capacity, handle, handle_at, has_good_name, has_key}
-use common.{head_len, if◌then◌else◌, index_at, inl, inr, insert, is_class, is_good_value, is_kind_of, is_name}
-use common.{is_object, is_object_at, is_proper, is_some, is_text_name, is_value, keeps-trans, kind_of, laid-heap}
-use common.{le-leb, le-ltb, length, length-replicate, list_all, live, live_of, lt-ltb, name_of, nat_le, none-some}
-use common.{object_at, object_len, objects_of, padded, perform, place, placed_is_proper, prepared, refl, replicate}
-use common.{resized, room_for, same_bytes, serves, subst, suc, sym, table_of, true, value_extents, value_len}
-use common.{with_entry, with_new_index, with_new_object, with_object, with_spare_entry, with_table_of, with_value, zero}
-use common.{ℕ, ℤ, ◌&&◌, ◌*◌, ◌+◌, ◌<◌, ◌==◌, ◌∙◌, ◌∷◌, ◌≡◌, ◌≤◌}
+use Rattle.segment_manager.specs.{containers.Filled.IsDenied, containers.Filled.IsGiven, objects.NewObjects.FindsNone}
+use common.{Absent, AddKeeps, AddsEntry, AllocatesOk, Anonymous, BackingArray, BeginsObjectOk, Bool, ChangesBytes}
+use common.{Class, Code, Content, Denotes, DenotesCurrent, Directory, EncodesLiveSet, Entry, Extent, FindsPosition}
+use common.{Index, IndexRole, IsAbsentAt, IsEntry, IsIndexOf, IsNewKeyOf, IsSegment, IsTrue, KeepsBlocks, Kind}
+use common.{LeadsThere, List, LiveSet, MakesValueErr, MakesValueOk, Memory, Name, Named, New, NoSpace, None, Numbers}
+use common.{Object, ObjectRole, Option, PendingEntry, Plan, PreparesOk, Refusal, Refused, Request, RequestsBlocksOk}
+use common.{RestoresBlocks, Role, SameSurroundings, SameSurroundings-trans, Scalar, ScalarKind, Seeks, Some, Unique}
+use common.{Value, WindowState, WritesObjectHeader, WritesUnindexedObject, [], added, allocated-live, and_from, ap}
+use common.{arith, bare, bytes_of, class_of, class_of_index, code_of, count_of, current, entries_of, entry_count}
+use common.{eq-eqb, extents_of, find, grown_bytes, grown_capacity, handle, has_good_name, has_key, head_len}
+use common.{if◌then◌else◌, index_at, inl, inr, insert, is_good_value, is_kind_of, is_name, is_object, is_proper}
+use common.{is_text_name, is_value, keeps-trans, kind_of, laid-heap, le-leb, le-ltb, length, length-replicate, list_all}
+use common.{live, live_of, lt-ltb, name_of, nat_le, object_at, object_len, objects_of, padded, perform, place}
+use common.{placed_is_proper, prepared, refl, replicate, resized, room_for, same_bytes, serves, subst, suc, sym}
+use common.{table_of, true, value_extents, value_len, with_entry, with_new_index, with_new_object, with_object}
+use common.{with_spare_entry, with_table_of, with_value, zero, ℕ, ℤ, ◌&&◌, ◌*◌, ◌+◌, ◌<◌, ◌==◌, ◌∙◌, ◌∷◌, ◌≡◌, ◌≤◌}
 
 -- ---- numbers
 
@@ -733,100 +727,3 @@ module _ (content : Content) where
         (alone-refused h at (record { is = refl; taken = g.taken; takes = g.takes; headed = g.headed }) r back)
     value-not_built (Some e) {w} {why} g r gives =
         value-refused a b key h at g r (gives a (value-loose a b key h at (Some e) w why g r))
-
--- The object of a handle, and the entry that it has.
-
--- ---- the object of a handle
-
--- the handle means itself
-itself : {s : SegmentState} {h : ℕ} → AnswersWith s (λ d. is_object_at d h) true
-    → AnswersWith s (λ d. handle_at d (names.ByHandle h)) (Some h)
-itself {h} a = handle-answers h a
-
-pub object-here : {s : SegmentState} {h : ℕ} → AnswersWith s (λ d. is_object_at d h) true → (d : Directory)
-    → DenotesCurrent s.cut.bytes d → IsHere s.cut.bytes d (names.ByHandle h) h
-object-here {s} {h} a d k = here s.cut.bytes d (names.ByHandle h) h k.denotes ((itself a).answers d k)
-
--- as the view before the call names the segment
-pub seen-there : {s t : SegmentState} (view : s ≡ t) (h : ℕ) → AnswersWith t (λ d. is_object_at d h) true
-    → AnswersWith s (λ d. is_object_at d h) true
-seen-there view h = subst (λ (u : SegmentState). AnswersWith u (λ d. is_object_at d h) true) (sym view)
-
--- the object of a handle exists
-pub has-own_object : {s t : SegmentState} (view : s ≡ t) (h : ℕ) → IsSegment s.cut.bytes
-    → AnswersWith t (λ d. is_object_at d h) true → HasObject s.cut.bytes h
-has-own_object view h i a = has-object (names.ByHandle h) i (itself (seen-there view h a))
-
-none-if : (r : Option Object) → false ≡ is_some r → r ≡ None
-none-if None e = refl
-none-if (Some o) e = absurd (cc)
-
--- or no object has it
-pub no-object : {s : SegmentState} (h : ℕ) → AnswersWith s (λ d. is_object_at d h) false → (d : Directory)
-    → DenotesCurrent s.cut.bytes d → object_at d (names.ByHandle h) ≡ None
-no-object h a d k = none-if (object_at d (names.ByHandle h)) (a.answers d k)
-
--- ---- the entry of an object, by its head
-
-own-class : {c : Class} (o : Object) → o.class ≡ c → (class_code c == class_code c) ≡ true → is_class c o ≡ true
-own-class {c} o e f = ap (λ b. class_code c == class_code b) e ∙ f
-
-by-own_handle : (d : Directory) {h : ℕ} {o : Object} → h ≡ handle o.extent → object_at d (names.ByHandle h) ≡ Some o
-    → object_at d (names.ByHandle (handle o.extent)) ≡ Some o
-by-own_handle d {o} e f = subst (λ g. object_at d (names.ByHandle g) ≡ Some o) e f
-
--- the entry is looked up by this name
-abbrev pub IsNamed : Entry → List ℕ → Type 0
-IsNamed (entry.Name bytes) name = bytes.now ≡ name
-IsNamed (entry.Code n) name = ⊥
-
-module _ {s t : SegmentState} (view : s ≡ t) {h : ℕ} {head : Head} (a : AnswersWith t (λ d. is_object_at d h) true)
-    (r : IsReadAt s.cut.bytes h head) where
-  here-in : (d : Directory) → DenotesCurrent s.cut.bytes d → IsHere s.cut.bytes d (names.ByHandle h) h
-  here-in = object-here (seen-there view h a)
-
-  -- the object is anonymous
-  pub listed-none : head.class ≡ class.Anonymous → IsAnonymousAt t h
-  listed-none e = subst (λ (u : SegmentState). IsAnonymousAt u h) view (λ d k.
-      let o = here-in d k in
-      (o.object, o.is, sym (r o.object o.stands).class ∙ e))
-
-  -- the object has a name
-  pub listed-name : (e : Entry) → head.class ≡ class.Named
-      → ((o : Object) → IsObjectInBlock s.cut.bytes h o → IsNamed e o.name) → HasEntries t index.Named e h
-  listed-name (entry.Name bytes) e n =
-      subst (λ (u : SegmentState). HasEntries u index.Named (entry.Name bytes) h) view (λ d k.
-      let o = here-in d k in
-      record {
-        object = o.object;
-        is = o.is;
-        key = names.ByName o.object.name;
-        seeks = n o.object o.stands;
-        found = own-name k.denotes.directory (by-own_handle d o.stands.at o.is)
-            (own-class o.object (sym (r o.object o.stands).class ∙ e) refl);
-      })
-  listed-name (entry.Code n) e m = subst (λ (u : SegmentState). HasEntries u index.Named (entry.Code n) h) view
-      (λ d k. absurd (m (here-in d k).object (here-in d k).stands))
-
-  -- the object is unique
-  pub listed-kind : {n : ℕ} → head.class ≡ class.Unique → n ≡ code_of head.kind
-      → HasEntries t index.Unique (entry.Code n) h
-  listed-kind {n} e f = subst (λ (u : SegmentState). HasEntries u index.Unique (entry.Code n) h) view (λ d k.
-      let o = here-in d k in let said = r o.object o.stands in
-      record {
-        object = o.object;
-        is = o.is;
-        key = names.ByKind (kind_of o.object.value);
-        seeks = f ∙ ap code_of said.kind;
-        found = own-kind k.denotes.directory (by-own_handle d o.stands.at o.is)
-            (own-class o.object (sym said.class ∙ e) refl);
-      })
-
--- an entry that an object has is found
-pub listed-found : {s t : SegmentState} (view : s ≡ t) (i : Index) (e : Entry) (h at : ℕ)
-    → ForIndex s.cut i (λ hs. FindsPosition (bytes_of s.cut.bytes) e hs (Absent at)) → HasEntries t i e h
-    → IsAnonymousAt t h
-listed-found {s} view i e h at f each = subst (λ (u : SegmentState). IsAnonymousAt u h) view (λ d k.
-    let x : HasIndexEntry i e d h = subst (λ (u : SegmentState). HasEntries u i e h) (sym view) each d k in
-    absurd (none-some x.object (sym (lookup-absent i s.cut e x.key k.denotes x.seeks
-    (of-directory s i (λ hs. FindsPosition (bytes_of s.cut.bytes) e hs (Absent at)) k f)).none ∙ x.found)))

@@ -5,9 +5,8 @@ use Rattle.raw_region.proofs.{Bytes.HasBytesAt-append, Facts.no_more, Facts.seco
 use Rattle.raw_region.proofs.Laws.{SameBytesExcept-SameBytes, SameBytesExcept-wider, length-part, part-part, read-part}
 use Rattle.best_fit.proofs.Laws.{LiesBeside, above, allocated-is_live, below, block_payload, changed-keeps_block}
 use Rattle.best_fit.proofs.Laws.{found-inserted, found-new, found-none, found-room, inserted-append, live-spaced}
-use Rattle.best_fit.proofs.Laws.{room-less, spaced-insert, spread-refl, still_allocated-block, taken-back, written-but}
+use Rattle.best_fit.proofs.Laws.{spaced-insert, spread-refl, still_allocated-block, taken-back, written-but}
 use Rattle.best_fit.specs.{Fit.insert, Heap.payload_at}
-use Rattle.seg_vector.proofs.storage.Storage.{live-if}
 use Rattle.seg_index.proofs.Laws.{Around-kept, ObjectStays, all_found, place_behind, place_small, stays, stays-itself}
 use Rattle.seg_index.proofs.Laws.{taken-stays}
 use Rattle.seg_index.specs.{Growth.CanGrow, Growth.FreesGrowth, Growth.IsBlockFor, Sorted.HasSortKey}
@@ -21,7 +20,6 @@ use Rattle.segment_manager.proofs.directory.LiveSet.{apart-inserted, insert-inse
 use Rattle.segment_manager.proofs.directory.LiveSet.{live-rises, live-split, resized-fresh, rising-insert}
 use Rattle.segment_manager.proofs.objects.Regrown.{InPlace, differs-flip, rest, with_extents}
 use Rattle.segment_manager.proofs.objects.Rewritten.{object-held, value_start, with_value}
-use Rattle.segment_manager.proofs.objects.Slices.{repeated-length, repeated-more}
 use common.{AllByRecursion, AllocatesNoSpace, AllocatesOk, Answer, BackingArray, BeginsObjectOk, Bool, ChangesBytes}
 use common.{Class, Deallocates, Denotes, Directory, EncodesLiveSet, ExchangesBlocks, Extent, HasBytesAt}
 use common.{HasBytesAt-same, IfSome, Index, IndexRole, IsHeadAt, IsHeap, IsIndexOf, IsObjectAt, IsTrue, IsValueAt}
@@ -33,11 +31,11 @@ use common.{WritesUnindexedForEntry, WritesUnindexedObject, [], added, allocated
 use common.{blocks-trans, bytes_of, changed, changed-live, changed-room, class_code, code_of, count_of, current, end_of}
 use common.{exchanged, extent_at, extents_of, find, grown_backing, grown_bytes, grown_capacity, handle, has_room, holds}
 use common.{if◌then◌else◌, index_at, inl, inr, is_live_in, is_object, is_proper, keeps-refl, keeps-trans, kind_of}
-use common.{laid-heap, lay_out_one, length, length-replicate, live, live_of, lt-leb, middle-first, mul-le-mul_left}
+use common.{laid-heap, lay_out_one, length, length-replicate, live, live_of, lt-leb, middle-first}
 use common.{ne_eqb, no_backing, option_map, padded, padded_name, part, perform, place, read, refl, regrow}
-use common.{remove_object, repeated, replicate, resized, room_block, room_for, same_role, subst, suc, sym, take}
+use common.{remove_object, replicate, resized, room_block, room_for, same_role, subst, suc, sym, take}
 use common.{two_halves, value_extents, value_len, with_changed, with_storage, without_object, word_at, zero, ℕ, ◌%◌}
-use common.{◌*◌, ◌++◌, ◌+◌, ◌-◌, ◌/◌, ◌<◌, ◌==◌, ◌∙◌, ◌∷◌, ◌≡◌, ◌≢◌, ◌≤◌}
+use common.{◌*◌, ◌++◌, ◌+◌, ◌-◌, ◌/◌, ◌==◌, ◌∙◌, ◌∷◌, ◌≡◌, ◌≢◌, ◌≤◌}
 
 -- ---- extents among others
 
@@ -595,12 +593,6 @@ made-object {a} {m} {e} {w} {name} {n} {h} {at} v took headed change storage say
 -- The payload of a block, as it is lent and as contracts count its room, and an object written there piece by piece:
 -- the words of its head, its name, its elements.
 
--- ---- blocks with room are in use
-
--- a block with room is in use
-pub room-live : (l : LiveSet) (h n : ℕ) → IsTrue (has_room l h n) → IsTrue (is_live_in l h)
-room-live l h n t = live-if h n l.extents t
-
 -- ---- the bytes that a block lends
 
 -- the first n bytes of the payload p are the heap's, and all offsets are small
@@ -653,44 +645,6 @@ bytes-stay {a} {b} at {from} {n} bytes c f h =
     HasBytesAt-same (bytes_of a.bytes) (bytes_of b.bytes) at from at bytes s (omega arith) f h
 
 -- ---- the same bytes several times
-
--- there is room for one more copy
-pub room-once_more : {a b : WindowState} (h at len i n : ℕ) → i < n
-    → IsTrue (has_room (live_of a.bytes) h (at + len * n))
-    → ChangesBytes current a b (h + at) (len * i) → IsTrue (has_room (live_of b.bytes) h (at + len * i + len))
-room-once_more {a} {b} h at len i n l room c =
-    let fits : len * (i + 1) ≤ len * n = mul-le-mul_left len (omega arith) in
-    changed-room current a b (h + at) (len * i) h (at + len * i + len) c
-    (room-less (live_of a.bytes) h (at + len * n) (at + len * i + len) (omega arith) room)
-
--- the offset of the next is small
-pub next-small : (a : WindowState) (h at len i n : ℕ) → IsHeap current a.bytes
-    → IsTrue (has_room (live_of a.bytes) h (at + len * n)) → i < n → at + len * i ≤ 1073741824
-next-small a h at len i n heap room l =
-    let small = room-small a h (at + len * n) heap room in
-    let fits : len * i ≤ len * n = mul-le-mul_left len (omega arith) in
-    omega arith
-
--- the bytes were written i times, and then once more
-pub record Repeats (a b : WindowState) (from i : ℕ) (bytes : List ℕ) : Type 0 where
-  pub change : ChangesBytes current a b from (length bytes * i)
-  pub content : HasBytesAt (bytes_of b.bytes) from (repeated i bytes)
-
--- one more copy is written
-pub repeats-more : {a b c : WindowState} (h at : ℕ) {i : ℕ} {bytes : List ℕ} → Repeats a b (h + at) i bytes
-    → ChangesBytes current b c (h + (at + length bytes * i)) (length bytes)
-    → HasBytesAt (bytes_of c.bytes) (h + (at + length bytes * i)) bytes → Repeats a c (h + at) (i + 1) bytes
-repeats-more {a} {b} {c} h at {i} {bytes} r s w =
-    let n = length bytes in let long = repeated-length i bytes in
-    let to : h + (at + n * i) ≡ h + at + n * i = omega arith in let sum : n * i + n ≡ n * (i + 1) = omega arith in
-    let s' : ChangesBytes current b c (h + at + n * i) n = subst (λ from. ChangesBytes current b c from n) to s in
-    let front = bytes-stay (h + at) (repeated i bytes) s' (omega arith) r.content in
-    record {
-      change = subst (λ k. ChangesBytes current a c (h + at) k) sum (changed-trans r.change s');
-      content = subst (HasBytesAt (bytes_of c.bytes) (h + at)) (repeated-more i bytes)
-          (HasBytesAt-append (bytes_of c.bytes) (h + at)
-          (repeated i bytes) bytes front (subst (λ p. HasBytesAt (bytes_of c.bytes) p bytes) (omega arith) w));
-    }
 
 -- ---- a name
 

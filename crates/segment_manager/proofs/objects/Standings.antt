@@ -1,12 +1,11 @@
 -- The facts about an object in its block.
-use Rattle.segment_manager.proofs.Common.{◌≡◌, ap, ◌∙◌, ◌+◌, ◌-◌, ◌*◌, ◌/◌, ◌%◌, ◌≤◌, List, arith, read, Object, padded}
-use Rattle.segment_manager.proofs.Common.{ℕ, replicate, bytes_of, has_room, class_code, count_of, object_len, value_len}
-use Rattle.segment_manager.proofs.Common.{length, IsTrue, current, word_at, handle, live_of, code_of, kind_of}
-use Rattle.segment_manager.proofs.Common.{IsObjectInBlock, sym, Kind, kind_of_code, same_Some}
-use Rattle.segment_manager.proofs.objects.KindCodes.{code-read}
-use Rattle.segment_manager.proofs.objects.Heads.{Has-front, good-name, good_name-short, object-entry}
 use Rattle.best_fit.proofs.Laws.{room-less}
-use Rattle.segment_manager.specs.objects.Located.{located}
+use Rattle.segment_manager.proofs.Common.{IsObjectInBlock, IsTrue, Kind, List, Object, ap, arith, bytes_of, class_code}
+use Rattle.segment_manager.proofs.Common.{code_of, count_of, current, handle, has_room, kind_of, kind_of_code, length}
+use Rattle.segment_manager.proofs.Common.{live_of, object_len, padded, read, replicate, same_Some, sym, value_len}
+use Rattle.segment_manager.proofs.Common.{word_at, ℕ, ◌%◌, ◌*◌, ◌+◌, ◌-◌, ◌/◌, ◌∙◌, ◌≡◌, ◌≤◌}
+use Rattle.segment_manager.proofs.objects.Heads.{Has-front, good-name, good_name-short, object-entry}
+use Rattle.segment_manager.{proofs.objects.KindCodes.code-read, specs.objects.Located.located}
 
 -- its name is short
 pub standing-short : (b : List ℕ) (h : ℕ) (o : Object) → IsObjectInBlock b h o → length o.name ≤ 255

@@ -297,13 +297,9 @@ impl<'a, T: Scalar> BoundMut<'a, Slice<T, Growable>> {
         SegVec::<T>::at(self.object.own_container()).insert(&mut segment.heap, index, value)
     }
 
-    /// Removes the element at `index`. The elements after it move down; the capacity stays.
+    /// Removes the element at `index`. The elements after it move down; the capacity stays. The error of `set` applies.
     ///
     /// Example: `queue.erase(0)?`.
-    ///
-    /// # Errors
-    ///
-    /// `OutOfRange` if `index` is not below the length. Nothing changes.
     #[inline(always)]
     pub fn erase(&mut self, index: u64) -> Result<()>
         ensures unchanged { SameBound self.old self.new }
@@ -335,13 +331,9 @@ impl<'a, T: Scalar> BoundMut<'a, Slice<T, Growable>> {
         SegVec::<T>::at(self.object.own_container()).assign(&mut segment.heap, values)
     }
 
-    /// Replaces the elements from `first` on, all of them or none. Without values nothing changes.
+    /// Replaces the elements from `first` on, as [`ArrayMut::overwrite`] does, with its error.
     ///
     /// Example: `queue.overwrite(1, &[6, 7])?`.
-    ///
-    /// # Errors
-    ///
-    /// `OutOfRange` if there are too few elements from `first` on. Nothing changes.
     pub fn overwrite(&mut self, first: u64, values: &[T]) -> Result<()>
         ensures unchanged { SameBound self.old self.new }
         ensures step { WritesRange self.old.segment.now self.new.segment.now (key_of self.old.object) T.kind first
@@ -354,13 +346,10 @@ impl<'a, T: Scalar> BoundMut<'a, Slice<T, Growable>> {
         SegVec::<T>::at(self.object.own_container()).overwrite(&mut segment.heap, first, values)
     }
 
-    /// Appends values. If the capacity is too small, it doubles, to at least 4 and at least the new length.
+    /// Appends values. If the capacity is too small, it doubles, to at least 4 and at least the new length. The error
+    /// of `assign` applies.
     ///
     /// Example: `queue.extend(&[8, 9])?`.
-    ///
-    /// # Errors
-    ///
-    /// `NoSpace` if its storage cannot be regrown. Nothing changes.
     #[inline(always)]
     pub fn extend(&mut self, values: &[T]) -> Result<()>
         ensures unchanged { SameBound self.old self.new }

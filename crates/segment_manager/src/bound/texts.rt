@@ -93,11 +93,7 @@ impl<'a> BoundMut<'a, StringBytes> {
         SegString { place }.append(&mut segment.heap, bytes)
     }
 
-    /// Replaces the bytes. If they do not fit, the capacity becomes their number.
-    ///
-    /// # Errors
-    ///
-    /// `NoSpace` if the storage cannot be regrown. Nothing changes.
+    /// Replaces the bytes. If they do not fit, the capacity becomes their number. The error of `append` applies.
     #[inline(always)]
     pub fn assign(&mut self, bytes: &[u8]) -> Result<()>
         ensures unchanged { SameBound self.old self.new }

@@ -66,14 +66,10 @@ impl Segment {
         self.change_storage(key, Change::Reserve(n))
     }
 
-    /// Shrinks the capacity of the vector or string to its length, as far as its block can be shortened.
+    /// Shrinks the capacity of the vector or string to its length, as far as its block can be shortened. The errors of
+    /// `reserve` apply, except for `NoSpace`.
     ///
     /// Example: `segment.shrink(&name)?`.
-    ///
-    /// # Errors
-    ///
-    /// `ReadOnly` if the segment is open for reading. Otherwise `NotFound` if no object has the key, `WrongKind` if the
-    /// object has no storage. Nothing changes.
     #[inline(never)]
     pub fn shrink<O: ObjectRef>(&mut self, key: &O) -> Result<(), Refusal>
         ensures step { TakesStep self.old self.new (Shrink (O.key key.now)) (done_answer result) }
@@ -82,14 +78,9 @@ impl Segment {
         self.change_storage(key, Change::Shrink)
     }
 
-    /// Removes all elements of the vector or string. The capacity stays.
+    /// Removes all elements of the vector or string. The capacity stays. The errors of `shrink` apply.
     ///
     /// Example: `segment.clear(&name)?`.
-    ///
-    /// # Errors
-    ///
-    /// `ReadOnly` if the segment is open for reading. Otherwise `NotFound` if no object has the key, `WrongKind` if the
-    /// object has no storage. Nothing changes.
     #[inline(never)]
     pub fn clear<O: ObjectRef>(&mut self, key: &O) -> Result<(), Refusal>
         ensures step { TakesStep self.old self.new (Clear (O.key key.now)) (done_answer result) }
@@ -110,6 +101,68 @@ impl Segment {
         }
         let object = locate(self, key)?;
         change_object(self, object, change)
+    }
+
+    /// Grows the capacity of the index of names to `n` objects, if it is less. It allocates a block for exactly `n`,
+    /// and then frees the old one.
+    ///
+    /// Example: `segment.reserve_named(1000)?`.
+    ///
+    /// # Errors
+    ///
+    /// `ReadOnly` if the segment is open for reading. Otherwise `NoSpace` if no gap is long enough. Nothing changes.
+    pub fn reserve_named(&mut self, n: u64) -> Result<(), Refusal>
+        ensures step { TakesStep self.old self.new (ReserveNamed n) (done_answer result) }
+        ensures refused { OnErr result (self.new ≡ self.old) }
+        ensures noop { UnchangedWhere self.old self.new (λ d. n ≤ d.named.capacity) }
+    {
+        self.reserve_index(Index::Named, n)
+    }
+
+    /// Grows the capacity of the index of kinds to `n` objects, if it is less. The errors of `reserve_named` apply.
+    ///
+    /// Example: `segment.reserve_unique(8)?`.
+    pub fn reserve_unique(&mut self, n: u64) -> Result<(), Refusal>
+        ensures step { TakesStep self.old self.new (ReserveUnique n) (done_answer result) }
+        ensures refused { OnErr result (self.new ≡ self.old) }
+        ensures noop { UnchangedWhere self.old self.new (λ d. n ≤ d.unique.capacity) }
+    {
+        self.reserve_index(Index::Unique, n)
+    }
+
+    /// Grows the capacity of an index to at least `n` objects.
+    fn reserve_index(&mut self, index: Index, n: u64) -> Result<(), Refusal>
+        ensures step { TakesStep self.old self.new (reserve_of index n) (done_answer result) }
+        ensures refused { OnErr result (self.new ≡ self.old) }
+        ensures noop { UnchangedWhere self.old self.new (λ d. n ≤ (table_of index d).capacity) }
+    {
+        if self.is_read_only() {
+            return Err(Refusal::ReadOnly);
+        }
+        match index.reserve(&mut self.heap, n, &mut Steps::new()) {
+            Ok(()) => Ok(()),
+            Err(NoSpace) => Err(Refusal::NoSpace),
+        }
+    }
+
+    /// Shrinks the capacity of both indexes to the number of their entries, the index of names first. It frees the
+    /// block of an empty index, and shortens any other block in place, as far as it can be shortened.
+    ///
+    /// Example: `segment.shrink_indexes()?`.
+    ///
+    /// # Errors
+    ///
+    /// `ReadOnly` if the segment is open for reading. Nothing changes.
+    pub fn shrink_indexes(&mut self) -> Result<(), Refusal>
+        ensures step { TakesStep self.old self.new ShrinkIndexes (done_answer result) }
+        ensures refused { OnErr result (self.new ≡ self.old) }
+    {
+        if self.is_read_only() {
+            return Err(Refusal::ReadOnly);
+        }
+        Index::Named.shrink(&mut self.heap, &mut Steps::new());
+        Index::Unique.shrink(&mut self.heap, &mut Steps::new());
+        Ok(())
     }
 }
 
@@ -221,73 +274,5 @@ fn measure_container(segment: &Segment, object: Object) -> (u64, u64)
     match object.kind {
         Kind::Map(_, _) => (len, 0),
         _ => (len, segment.heap.word(place.handle, place.at + CAPACITY)),
-    }
-}
-
-impl Segment {
-    /// Grows the capacity of the index of names to `n` objects, if it is less. It allocates a block for exactly `n`,
-    /// and then frees the old one.
-    ///
-    /// Example: `segment.reserve_named(1000)?`.
-    ///
-    /// # Errors
-    ///
-    /// `ReadOnly` if the segment is open for reading. Otherwise `NoSpace` if no gap is long enough. Nothing changes.
-    pub fn reserve_named(&mut self, n: u64) -> Result<(), Refusal>
-        ensures step { TakesStep self.old self.new (ReserveNamed n) (done_answer result) }
-        ensures refused { OnErr result (self.new ≡ self.old) }
-        ensures noop { UnchangedWhere self.old self.new (λ d. n ≤ d.named.capacity) }
-    {
-        self.reserve_index(Index::Named, n)
-    }
-
-    /// Grows the capacity of the index of kinds to `n` objects, if it is less.
-    ///
-    /// Example: `segment.reserve_unique(8)?`.
-    ///
-    /// # Errors
-    ///
-    /// `ReadOnly` if the segment is open for reading. Otherwise `NoSpace` if no gap is long enough. Nothing changes.
-    pub fn reserve_unique(&mut self, n: u64) -> Result<(), Refusal>
-        ensures step { TakesStep self.old self.new (ReserveUnique n) (done_answer result) }
-        ensures refused { OnErr result (self.new ≡ self.old) }
-        ensures noop { UnchangedWhere self.old self.new (λ d. n ≤ d.unique.capacity) }
-    {
-        self.reserve_index(Index::Unique, n)
-    }
-
-    /// Grows the capacity of an index to at least `n` objects.
-    fn reserve_index(&mut self, index: Index, n: u64) -> Result<(), Refusal>
-        ensures step { TakesStep self.old self.new (reserve_of index n) (done_answer result) }
-        ensures refused { OnErr result (self.new ≡ self.old) }
-        ensures noop { UnchangedWhere self.old self.new (λ d. n ≤ (table_of index d).capacity) }
-    {
-        if self.is_read_only() {
-            return Err(Refusal::ReadOnly);
-        }
-        match index.reserve(&mut self.heap, n, &mut Steps::new()) {
-            Ok(()) => Ok(()),
-            Err(NoSpace) => Err(Refusal::NoSpace),
-        }
-    }
-
-    /// Shrinks the capacity of both indexes to the number of their entries, the index of names first. It frees the
-    /// block of an empty index, and shortens any other block in place, as far as it can be shortened.
-    ///
-    /// Example: `segment.shrink_indexes()?`.
-    ///
-    /// # Errors
-    ///
-    /// `ReadOnly` if the segment is open for reading. Nothing changes.
-    pub fn shrink_indexes(&mut self) -> Result<(), Refusal>
-        ensures step { TakesStep self.old self.new ShrinkIndexes (done_answer result) }
-        ensures refused { OnErr result (self.new ≡ self.old) }
-    {
-        if self.is_read_only() {
-            return Err(Refusal::ReadOnly);
-        }
-        Index::Named.shrink(&mut self.heap, &mut Steps::new());
-        Index::Unique.shrink(&mut self.heap, &mut Steps::new());
-        Ok(())
     }
 }

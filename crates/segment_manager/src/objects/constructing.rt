@@ -1,22 +1,27 @@
-//! Constructs objects of any contents: arrays with several copies of one number, vectors, strings and maps.
+//! Constructs objects of any contents, or finds them: arrays with several copies of one number, vectors, strings and
+//! maps.
 ghost use Rattle.std.specs.Prelude.{map, true, ◌≡◌, ◌≤◌};
 ghost use Rattle.seg_types.specs.Commands.{Bytes, Elements, NoPairs, Strings};
-ghost use Rattle.seg_types.specs.Values.{kind_of_scalar, value_of_scalar};
+ghost use Rattle.seg_types.specs.{Names.Key as AnyKey, Values.kind_of_scalar, Values.value_of_scalar};
 ghost use Rattle.seg_types.specs.declared.kinds.Kind.TheVariants.{Map as MapOf, Scalar as ScalarOf};
 ghost use Rattle.seg_types.specs.declared.kinds.Kind.TheVariants.{String as StringKind, Strings as StringsKind};
 ghost use Rattle.seg_types.specs.declared.kinds.Kind.TheVariants.{Vector as VectorOf};
 ghost use Rattle.segment_manager.specs.{Directory.kind_of, objects.Counted.RefusesCount, objects.Counted.is_count};
-ghost use Rattle.segment_manager.specs.{Keeping.IsBoundKey, Keeping.UnchangedWhere, containers.Filled.equal_numbers};
-ghost use Rattle.segment_manager.specs.{Plan.bare, State.UnchangedIfRefused};
-ghost use Rattle.segment_manager.specs.containers.Filled.{ConstructsObject, FillsObject, FindsOrMakes, HasBegun};
+ghost use Rattle.segment_manager.specs.{Keeping.IsBoundKey, Keeping.UnchangedWhere, objects.NewObjects.IsNewKeyOf};
+ghost use Rattle.segment_manager.specs.{Plan.bare, State.IsSegment, State.UnchangedIfRefused};
+ghost use Rattle.segment_manager.specs.containers.Filled.{ConstructsObject, FillsObject, FindsOrConstructs};
+ghost use Rattle.segment_manager.specs.containers.Filled.{FindsOrMakes, HasBegun, equal_numbers, with_count};
 
 use crate::containers::fillings::{
     MAX_COUNT, NewMap, NewNumbers, NewString, NewTexts, NewVector, ObjectInit,
 };
 use crate::objects::construct_keys::{ConstructKey, FindOrConstructKey};
-use crate::objects::pending_object::{PendingObject, begin_object, finish_object};
+use crate::objects::finding::{entry_of, found_of};
+use crate::objects::pending_object::{PendingObject, begin_at, begin_object, finish_object};
 use crate::segment::{Result, Segment};
 use best_fit::Heap;
+use raw_region::Steps;
+use seg_index::{Entry, Index, Lookup};
 use seg_types::{Handle, Refusal, Scalar, ScalarKind, ScalarValue, by_value};
 use seg_vector::Place;
 
@@ -129,29 +134,114 @@ impl Segment {
         let begun = begin_object(&mut self.heap, &key, shape)?;
         build(&mut self.heap, begun, filling)
     }
-}
 
-/// Fills a new object with its contents, and links its entry to it. If there is no space for its elements, it frees
-/// everything that was allocated for the object.
-#[inline(always)]
-pub(crate) fn build<F: ObjectInit>(
-    heap: &mut Heap,
-    begun: PendingObject,
-    filling: &F,
-) -> Result<Handle>
-    requires start { HasBegun heap.old (F.content filling.now) begun.handle begun.at begun.entry }
-    requires object { F.stands filling.now }
-    ensures { FillsObject heap.old heap.new begun.handle begun.at begun.entry (F.content filling.now) result }
-{
-    let place = Place {
-        handle: begun.handle,
-        at: begun.at,
-    };
-    let filled = filling.fill(heap, place);
-    finish_object(heap, begun, filled)
-}
+    /// Returns the handle and the number of elements of the array of scalars of a key. If no object has the key, makes
+    /// an array of `count` copies of a value, from 1 to 1048576; an array found stays as it is, for any `count`. A key
+    /// with a kind must have the value's kind.
+    ///
+    /// Example: `let (handle, count) = segment.find_or_construct(&name, 1, 640i64)?`.
+    ///
+    /// # Conditions and errors
+    ///
+    /// As `construct`, but `WrongKind` instead of `Exists`, if the object has another kind.
+    pub fn find_or_construct<T: Scalar, D: FindOrConstructKey>(
+        &mut self,
+        key: &D,
+        count: u32,
+        value: T,
+    ) -> Result<(Handle, u32)>
+        requires kind { D.suits key.now (ScalarOf T.kind) }
+        requires non_empty { 1 ≤ count }
+        requires max_count { count ≤ 1048576 }
+        ensures step { FindsOrMakes self.old self.new (D.key key.now (ScalarOf T.kind))
+            (equal_numbers T.kind count (T.whole value)) result }
+        ensures refused { UnchangedIfRefused self.old self.new result }
+        ensures search { UnchangedWhere self.old self.new (IsBoundKey (D.key key.now (ScalarOf T.kind))) }
+    {
+        self.find_or_construct_under(key, &NewNumbers { count, value })
+    }
 
-impl Segment {
+    /// Returns the handle and the number of elements of the array of scalars of a key, or makes an array whose count is
+    /// known only at run time.
+    ///
+    /// Example: `let (handle, count) = segment.find_or_construct_array(&name, count, 0u8)?`.
+    ///
+    /// # Conditions and errors
+    ///
+    /// `ReadOnly` if the segment is open for reading. Otherwise `OutOfRange` if `count` is 0 or above 1048576: nothing
+    /// changes. Otherwise as `find_or_construct`, except for the count.
+    pub fn find_or_construct_array<T: Scalar, D: FindOrConstructKey>(
+        &mut self,
+        key: &D,
+        count: u32,
+        value: T,
+    ) -> Result<(Handle, u32)>
+        requires kind { D.suits key.now (ScalarOf T.kind) }
+        ensures step { is_count count ≡ true
+            → FindsOrMakes self.old self.new (D.key key.now (ScalarOf T.kind))
+            (equal_numbers T.kind count (T.whole value)) result }
+        ensures count { RefusesCount count self.old self.new result }
+        ensures refused { UnchangedIfRefused self.old self.new result }
+        ensures search { UnchangedWhere self.old self.new (IsBoundKey (D.key key.now (ScalarOf T.kind))) }
+    {
+        if count == 0 || count > MAX_COUNT {
+            return Err(self.refusal_of_count());
+        }
+        self.find_or_construct(key, count, value)
+    }
+
+    /// Returns the handle and the number of elements of the array of scalars of a key, or makes an array of a value of
+    /// a kind. The conditions and errors of `find_or_construct` apply.
+    ///
+    /// Example: `segment.find_or_construct_value(&name, 1, ScalarValue::I64(640))?`.
+    pub fn find_or_construct_value<D: FindOrConstructKey>(
+        &mut self,
+        key: &D,
+        count: u32,
+        value: ScalarValue,
+    ) -> Result<(Handle, u32)>
+        requires kind { D.suits key.now (ScalarOf (kind_of_scalar value)) }
+        requires non_empty { 1 ≤ count }
+        requires max_count { count ≤ 1048576 }
+        ensures step { FindsOrMakes self.old self.new (D.key key.now (ScalarOf (kind_of_scalar value)))
+            (equal_numbers (kind_of_scalar value) count (value_of_scalar value)) result }
+        ensures refused { UnchangedIfRefused self.old self.new result }
+        ensures search { UnchangedWhere self.old self.new
+            (IsBoundKey (D.key key.now (ScalarOf (kind_of_scalar value)))) }
+    {
+        by_value!(value, it => self.find_or_construct(key, count, it))
+    }
+
+    /// Returns the handle and the count of the object of a key, or makes an object with these contents. An object found
+    /// stays as it is.
+    ///
+    /// Example: `let (handle, count) = segment.find_or_construct_under(&name, &NewString { bytes: b"text" })?`.
+    ///
+    /// # Conditions and errors
+    ///
+    /// As `construct_under`, but `WrongKind` instead of `Exists`, if the object has another kind.
+    #[inline(always)]
+    pub fn find_or_construct_under<F: ObjectInit, D: FindOrConstructKey>(
+        &mut self,
+        key: &D,
+        filling: &F,
+    ) -> Result<(Handle, u32)>
+        requires object { F.stands filling.now }
+        requires kind { D.suits key.now (kind_of (bare (F.content filling.now))) }
+        ensures step { FindsOrMakes self.old self.new (D.key key.now (kind_of (bare (F.content filling.now))))
+            (F.content filling.now) result }
+        ensures refused { UnchangedIfRefused self.old self.new result }
+        ensures search { UnchangedWhere self.old self.new
+            (IsBoundKey (D.key key.now (kind_of (bare (F.content filling.now))))) }
+    {
+        if self.is_read_only() {
+            return Err(Refusal::ReadOnly);
+        }
+        let key = key.entry_for(filling.shape().kind);
+        let (index, entry, name) = entry_of(&key);
+        find_or_construct_entered(&mut self.heap, index, entry, name, filling)
+    }
+
     /// Makes a vector of values, with a capacity of exactly their number, and returns its handle. A key with a kind
     /// must have the kind of this vector. The conditions and errors of `construct` apply, except for the count.
     ///
@@ -320,4 +410,57 @@ impl Segment {
     {
         self.find_or_construct_under(key, &NewMap { keys, values })
     }
+}
+
+/// Fills a new object with its contents, and links its entry to it. If there is no space for its elements, it frees
+/// everything that was allocated for the object.
+#[inline(always)]
+pub(crate) fn build<F: ObjectInit>(
+    heap: &mut Heap,
+    begun: PendingObject,
+    filling: &F,
+) -> Result<Handle>
+    requires start { HasBegun heap.old (F.content filling.now) begun.handle begun.at begun.entry }
+    requires object { F.stands filling.now }
+    ensures { FillsObject heap.old heap.new begun.handle begun.at begun.entry (F.content filling.now) result }
+{
+    let place = Place {
+        handle: begun.handle,
+        at: begun.at,
+    };
+    let filled = filling.fill(heap, place);
+    finish_object(heap, begun, filled)
+}
+
+/// Returns the handle and the count of the object of an index entry, or makes the object. The segment of the heap is
+/// open for writing.
+fn find_or_construct_entered<F: ObjectInit>(
+    heap: &mut Heap,
+    index: Index,
+    entry: Entry<'_>,
+    name: &[u8],
+    filling: &F,
+) -> Result<(Handle, u32)>
+    requires segment { IsSegment heap.old.bytes }
+    requires object { F.stands filling.now }
+    requires key { (key : AnyKey) × IsNewKeyOf index entry key name.now (kind_of (bare (F.content filling.now))) }
+    ensures { (key : AnyKey) → IsNewKeyOf index entry.entry key name.now (kind_of (bare (F.content filling.now)))
+        → FindsOrConstructs heap.old heap.new key (F.content filling.now) result }
+{
+    let shape = filling.shape();
+    let place = match index.lookup(heap, entry, &mut Steps::new()) {
+        Lookup::Found(place) => return found_of(heap, index.at(heap, place), shape.kind),
+        Lookup::Absent(place) => place,
+    };
+    let begun = begin_at(heap, index, place, name, shape)?;
+    counted(build(heap, begun, filling), shape.count)
+}
+
+/// Returns a handle with the count of its object.
+#[inline(always)]
+pub(crate) fn counted(made: Result<Handle>, count: u32) -> Result<(Handle, u32)>
+    ensures { result ≡ with_count count made }
+{
+    let handle = made?;
+    Ok((handle, count))
 }

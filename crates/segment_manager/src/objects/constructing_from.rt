@@ -1,4 +1,4 @@
-//! Constructs arrays of scalars from the items of an iterator.
+//! Constructs arrays of scalars from the items of an iterator, or finds them.
 ghost use Rattle.std.specs.Prelude.{◌≡◌, ℤ, ◌+◌, ◌*◌, ◌≤◌, IsTrue, OnOk, length, true, false};
 ghost use Rattle.std.specs.{Iterator.HoldsAlong, List.AllByRecursion};
 ghost use Rattle.raw_region.specs.{Format.current, Memory.WindowState as ACut};
@@ -9,14 +9,19 @@ ghost use Rattle.seg_types.specs.{Kinds.spelling as spelling_of};
 ghost use Rattle.seg_types.specs.Values.{kind_of_scalar, value_of_scalar};
 ghost use Rattle.segment_manager.specs.objects.PendingObjects.{Fills, BeginsObjectOk, IsNextOfKind, WritesNext};
 ghost use Rattle.segment_manager.specs.objects.Counted.{RefusesCount, is_count, refusal_of_count};
-ghost use Rattle.segment_manager.specs.{objects.Items.ConstructsFromItems, objects.Items.TakesItemsIn};
-ghost use Rattle.segment_manager.specs.{objects.NewObjects.IsOfItsKind, State.IsSegment};
+ghost use Rattle.segment_manager.specs.objects.Items.{ConstructsFromItems, FindsOrTakes, FindsOrTakesIn, TakesItemsIn};
+ghost use Rattle.segment_manager.specs.objects.NewObjects.{IsNewKeyOf, IsOfItsKind};
+ghost use Rattle.segment_manager.specs.{State.IsSegment};
 
 use crate::containers::fillings::{LONGEST, MAX_COUNT, numbers};
-use crate::objects::construct_keys::ConstructKey;
-use crate::objects::pending_object::{PendingObject, begin_object, finish_object};
-use crate::segment::Segment;
+use crate::objects::construct_keys::{ConstructKey, FindOrConstructKey};
+use crate::objects::constructing::counted;
+use crate::objects::finding::{entry_of, found_of};
+use crate::objects::pending_object::{PendingObject, begin_at, begin_object, finish_object};
+use crate::segment::{Result, Segment};
 use best_fit::Heap;
+use raw_region::Steps;
+use seg_index::{Entry, Index, Lookup};
 use seg_types::{Handle, Kind, NewKey, Refusal, Scalar, ScalarKind, ScalarValue};
 
 impl Segment {
@@ -39,7 +44,7 @@ impl Segment {
         key: &D,
         count: u32,
         items: &mut I,
-    ) -> Result<Handle, Refusal>
+    ) -> Result<Handle>
         requires kind { D.suits key.now (ScalarOf T.kind) }
         requires well_formed { I.can_next items.old }
         ensures count { RefusesCount count self.old self.new result }
@@ -52,6 +57,38 @@ impl Segment {
         }
         let key = key.key_for(Kind::Scalar(T::kind()));
         self.construct_items::<OfType, T, I>(&key, T::kind(), count, items)
+    }
+
+    /// Returns the handle and the number of elements of the array of scalars of a key. If no object has the key, makes
+    /// an array of the next `count` items. An array found stays as it is, for any `count`, and no item is taken.
+    ///
+    /// Example: `let (handle, count) = segment.find_or_construct_it(&name, 5, &mut primes)?`.
+    ///
+    /// # Conditions and errors
+    ///
+    /// As `construct_it`, but `WrongKind` instead of `Exists`, if the object has another kind.
+    pub fn find_or_construct_it<T: Scalar, I: Iterator<Item = T>, D: FindOrConstructKey>(
+        &mut self,
+        key: &D,
+        count: u32,
+        items: &mut I,
+    ) -> Result<(Handle, u32)>
+        requires kind { D.suits key.now (ScalarOf T.kind) }
+        requires well_formed { I.can_next items.old }
+        ensures count { RefusesCount count self.old self.new result }
+        ensures not_taken { is_count count ≡ false → items.new ≡ items.old }
+        ensures items { is_count count ≡ true → FindsOrTakes I.next_gives T.whole self.old self.new
+            (D.key key.now (ScalarOf T.kind)) T.kind count items.old items.new result }
+    {
+        if count == 0 || count > MAX_COUNT {
+            return Err(self.refusal_of_count());
+        }
+        if self.is_read_only() {
+            return Err(Refusal::ReadOnly);
+        }
+        let key = key.entry_for(Kind::Scalar(T::kind()));
+        let (index, entry, name) = entry_of(&key);
+        find_or_take(&mut self.heap, index, entry, name, count, items)
     }
 
     /// Returns the error for a count out of range: `ReadOnly` if the segment is open for reading, otherwise
@@ -80,7 +117,7 @@ impl Segment {
         kind: ScalarKind,
         count: u32,
         items: &mut I,
-    ) -> Result<Handle, Refusal>
+    ) -> Result<Handle>
         requires kind { D.suits key.now (ScalarOf kind) }
         requires non_empty { 1 ≤ count }
         requires max_count { count ≤ 1048576 }
@@ -101,7 +138,7 @@ impl Segment {
         kind: ScalarKind,
         count: u32,
         items: &mut I,
-    ) -> Result<Handle, Refusal>
+    ) -> Result<Handle>
         requires kind { IsOfItsKind (new_key_seen key.now) kind }
         requires non_empty { 1 ≤ count }
         requires max_count { count ≤ 1048576 }
@@ -126,7 +163,7 @@ pub(crate) fn take_items<S: Spelling<A>, A, I: Iterator<Item = A>>(
     kind: ScalarKind,
     count: u32,
     items: &mut I,
-) -> Result<Handle, Refusal>
+) -> Result<Handle>
     requires start { (old : ACut) × (IsSegment old.bytes × ((key : AnyKey)
         × BeginsObjectOk old heap.old key (ScalarOf kind) count (size_of kind * count) begun.handle begun.at
         begun.entry)) }
@@ -140,6 +177,36 @@ pub(crate) fn take_items<S: Spelling<A>, A, I: Iterator<Item = A>>(
 {
     let filled = fill_items::<S, A, I>(heap, begun.handle, begun.at, kind, count, items);
     finish_object(heap, begun, filled)
+}
+
+/// Returns the handle and the count of the object of an index entry, which it looks up once, or makes an array of the
+/// next `count` items.
+fn find_or_take<T: Scalar, I: Iterator<Item = T>>(
+    heap: &mut Heap,
+    index: Index,
+    entry: Entry<'_>,
+    name: &[u8],
+    count: u32,
+    items: &mut I,
+) -> Result<(Handle, u32)>
+    requires segment { IsSegment heap.old.bytes }
+    requires key { (key : AnyKey) × IsNewKeyOf index entry key name.now (ScalarOf T.kind) }
+    requires non_empty { 1 ≤ count }
+    requires max_count { count ≤ 1048576 }
+    requires well_formed { I.can_next items.old }
+    ensures { (key : AnyKey) → IsNewKeyOf index entry.entry key name.now (ScalarOf T.kind)
+        → FindsOrTakesIn I.next_gives T.whole heap.old heap.new key T.kind count items.old items.new result }
+{
+    let kind = T::kind();
+    let place = match index.lookup(heap, entry, &mut Steps::new()) {
+        Lookup::Found(place) => return found_of(heap, index.at(heap, place), Kind::Scalar(kind)),
+        Lookup::Absent(place) => place,
+    };
+    let begun = begin_at(heap, index, place, name, numbers(kind, count))?;
+    counted(
+        take_items::<OfType, T, I>(heap, begun, kind, count, items),
+        count,
+    )
 }
 
 /// The encoding of an iterator's items.
@@ -193,7 +260,7 @@ fn fill_items<S: Spelling<A>, A, I: Iterator<Item = A>>(
     kind: ScalarKind,
     count: u32,
     items: &mut I,
-) -> Result<(), Refusal>
+) -> Result<()>
     requires heap { IsHeap current heap.old.bytes }
     requires room { IsTrue (has_room (live_of heap.old.bytes) handle (at + size_of kind * count)) }
     requires well_formed { I.can_next items.old }
@@ -218,7 +285,7 @@ fn write_item<S: Spelling<A>, A, I: Iterator<Item = A>>(
     at: u64,
     kind: ScalarKind,
     items: &mut I,
-) -> Result<(), Refusal>
+) -> Result<()>
     requires room { IsTrue (has_room (live_of heap.old.bytes) handle (at + size_of kind)) }
     requires well_formed { I.can_next items.old }
     requires kind_fit { IsNextOfKind I.next_gives S.kind items.old kind }

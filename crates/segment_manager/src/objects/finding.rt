@@ -7,10 +7,13 @@ ghost use Rattle.seg_index.specs.Sorted.{index_of};
 ghost use Rattle.segment_manager.specs.objects.Found.{IsBelow, found_answer, handle_at};
 ghost use Rattle.segment_manager.specs.{Answers.Number, State.AnswersQuery, State.AnswersWith};
 ghost use Rattle.segment_manager.specs.{Denotes.handles, objects.NewObjects.IsNewKeyOf, objects.NewObjects.IsOfKind};
-ghost use Rattle.segment_manager.specs.{Directory.named_objects, Directory.unique_objects, indexes.Indexed.Seeks};
+ghost use Rattle.segment_manager.specs.Directory.{Object, named_objects, unique_objects};
+ghost use Rattle.segment_manager.specs.objects.Standing.{HasObject, IsObjectInBlock, pair_of_kind};
+ghost use Rattle.segment_manager.specs.{indexes.Indexed.Seeks};
 
-use crate::objects::finding_or_constructing::found_of;
-use crate::segment::Segment;
+use crate::objects::object_ref::read_of_kind;
+use crate::segment::{Result, Segment};
+use best_fit::Heap;
 use raw_region::Steps;
 use seg_index::{Entry, Index, Lookup};
 use seg_types::{Handle, IndexKey, Key, Kind, Refusal, Scalar};
@@ -24,7 +27,7 @@ impl Segment {
     /// # Errors
     ///
     /// `WrongKind` if the object has another kind.
-    pub fn find_kind(&self, key: &Key, kind: Kind) -> Result<Option<(Handle, u32)>, Refusal>
+    pub fn find_kind(&self, key: &Key, kind: Kind) -> Result<Option<(Handle, u32)>>
         ensures { AnswersQuery self.now (Find (key_seen key.now) kind) (found_answer result) }
     {
         let Some(handle) = self.handle_of(key) else {
@@ -42,7 +45,7 @@ impl Segment {
     /// # Errors
     ///
     /// `WrongKind` if the object has another kind.
-    pub fn find<T: Scalar>(&self, key: &Key) -> Result<Option<(Handle, u32)>, Refusal>
+    pub fn find<T: Scalar>(&self, key: &Key) -> Result<Option<(Handle, u32)>>
         ensures { AnswersQuery self.now (Find (key_seen key.now) (ScalarOf T.kind)) (found_answer result) }
     {
         self.find_kind(key, Kind::Scalar(T::kind()))
@@ -132,4 +135,17 @@ pub fn unique_at(segment: &Segment, i: u64) -> Handle
     ensures { AnswersWith segment.now (λ d. slice_get (handles (unique_objects d)) i) (Some result) }
 {
     Index::Unique.at(&segment.heap, i)
+}
+
+/// Returns an object's handle and count. The count is the number of elements of an array, and 1 for a container.
+///
+/// # Errors
+///
+/// `WrongKind` if the object has another kind.
+pub(crate) fn found_of(heap: &Heap, handle: u64, kind: Kind) -> Result<(Handle, u32)>
+    requires { HasObject heap.now.bytes handle }
+    ensures { (o : Object) → IsObjectInBlock heap.now.bytes handle o → result ≡ pair_of_kind o kind }
+{
+    let object = read_of_kind(heap, handle, kind)?;
+    Ok((handle, object.count))
 }

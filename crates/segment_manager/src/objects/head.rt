@@ -1,10 +1,10 @@
 //! The head of an object, at the front of its block: its kind and count, its name and its class.
 ghost use Rattle.std.specs.Prelude.{◌≡◌, ◌+◌, ◌<◌, ◌≤◌, ◌^◌, IsTrue, length};
-ghost use Rattle.raw_region.specs.{Format.current, Memory.HasBytesAt, Memory.bytes_of};
+ghost use Rattle.raw_region.specs.{Format.current, Memory.bytes_of};
 ghost use Rattle.best_fit.specs.Heap.{ChangesBytes, IsHeap, has_room, live_of};
 ghost use Rattle.seg_types.specs.declared.kinds.Class.{Class as ClassOf};
 ghost use Rattle.seg_types.specs.{declared.kinds.Kind.Kind as KindOf, Kinds.class_code, Kinds.code_of};
-ghost use Rattle.segment_manager.specs.{Denotes.padded_name, Directory.Object, Directory.padded, Layout.head_len};
+ghost use Rattle.segment_manager.specs.{Directory.Object, Directory.padded, Layout.head_len};
 ghost use Rattle.segment_manager.specs.objects.Standing.{HasObject, IsHeadAt, IsHeadOf, IsObjectInBlock};
 
 use crate::layout::{HALF, HEAD_LEN, NAME_CLASS_AT, padded};
@@ -68,17 +68,6 @@ pub(crate) fn write_head(
     heap.set_word(handle, 0, u64::from(kind.code()) + HALF * u64::from(count));
     let second = len + HALF * u64::from(code_of_class(class));
     heap.set_word(handle, NAME_CLASS_AT, second);
-    write_name(heap, handle, name);
-}
-
-/// Writes a name after the two words of a head, with zeros up to a multiple of 8 bytes.
-fn write_name(heap: &mut Heap, handle: u64, name: &[u8])
-    requires room { IsTrue (has_room (live_of heap.old.bytes) handle (head_len + padded (length name.now))) }
-    requires max_len { length name.now ≤ 255 }
-    ensures changes { ChangesBytes current heap.old heap.new (handle + head_len) (padded (length name.now)) }
-    ensures name { HasBytesAt (bytes_of heap.new.bytes) (handle + head_len) (padded_name name.now) }
-{
-    let len = name.len() as u64;
     heap.write(handle, HEAD_LEN, name);
     let zeros = &[0; 8][..(padded(len) - len) as usize];
     heap.write(handle, HEAD_LEN + len, zeros);

@@ -68,13 +68,9 @@ impl Segment {
         self.heap.is_live(handle) && self.heap.role(handle) == Role::Object
     }
 
-    /// Returns the kind of the object of a key.
+    /// Returns the kind of the object of a key. The error of `instance` applies.
     ///
     /// Example: `let kind = segment.kind_of(&key)?`.
-    ///
-    /// # Errors
-    ///
-    /// `NotFound` if no object has the key.
     pub fn kind_of(&self, key: &Key) -> Result<Kind, Refusal>
         ensures { AnswersWith self.now (λ d. kind_at d (key_seen key.now)) result }
     {
@@ -84,13 +80,9 @@ impl Segment {
         }
     }
 
-    /// Returns the name of the object of a key, or `None` if the object has no name.
+    /// Returns the name of the object of a key, or `None` if the object has no name. The error of `instance` applies.
     ///
     /// Example: `if let Some(bytes) = segment.instance_name(&key)?`.
-    ///
-    /// # Errors
-    ///
-    /// `NotFound` if no object has the key.
     pub fn instance_name(&self, key: &Key) -> Result<Option<&[u8]>, Refusal>
         ensures { MatchResult result (λ name. AnswersWith self.now (λ d. told_at d (key_seen key.now) own_name)
             (Ok (option_map (λ bytes. bytes.now) name)))
@@ -105,13 +97,10 @@ impl Segment {
         }
     }
 
-    /// Returns the count of the object of a key: the number of elements of an array, and 1 for a container.
+    /// Returns the count of the object of a key: the number of elements of an array, and 1 for a container. The error
+    /// of `instance` applies.
     ///
     /// Example: `let count = segment.instance_length(&key)?`.
-    ///
-    /// # Errors
-    ///
-    /// `NotFound` if no object has the key.
     pub fn instance_length(&self, key: &Key) -> Result<u64, Refusal>
         ensures { AnswersWith self.now (λ d. told_at d (key_seen key.now) (λ (o : Object). count_of o.value)) result }
     {
@@ -121,13 +110,9 @@ impl Segment {
         }
     }
 
-    /// Returns the class of the object of a key: how it is found.
+    /// Returns the class of the object of a key: how it is found. The error of `instance` applies.
     ///
     /// Example: `let class = segment.instance_class(&key)?`.
-    ///
-    /// # Errors
-    ///
-    /// `NotFound` if no object has the key.
     pub fn instance_class(&self, key: &Key) -> Result<Class, Refusal>
         ensures { AnswersWith self.now (λ d. told_at d (key_seen key.now) (λ (o : Object). o.class)) result }
     {

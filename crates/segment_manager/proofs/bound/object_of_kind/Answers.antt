@@ -1,7 +1,7 @@
 -- The object of the handle has the kind or not.
 use Rattle.segment_manager.proofs.bound.object_of_kind.Goals as goal
-use Rattle.segment_manager.proofs.{Common.ByHandle, objects.Constructed.has-own_object, objects.Destroys.handle-answers}
-use Rattle.segment_manager.proofs.bound.ByKey.{of-found}
+use Rattle.segment_manager.proofs.objects.Locating.{has-own_object}
+use Rattle.segment_manager.proofs.{Common.ByHandle, bound.ByKey.of-found, objects.Destroys.handle-answers}
 
 pub read_of_kind-requires : goal.read_of_kind-requires
 read_of_kind-requires c = has-own_object c.segment.view_is c.args.handle c.segment.invariant c.requires

@@ -1,11 +1,12 @@
 -- The element lies in the payload.
 use Rattle.segment_manager.proofs.containers.fillings.element.Goals as goal
 use Rattle.segment_manager.proofs.Common.{ap, arith, length, live_of, part, ℕ, ◌+◌, ◌-◌, ◌∙◌, ◌≡◌, ◌≤◌}
-use Rattle.segment_manager.proofs.objects.Exchanged.{lent, room-live, room-small}
+use Rattle.segment_manager.proofs.objects.Exchanged.{lent, room-small}
+use Rattle.seg_vector.proofs.storage.Storage.{live-if}
 
 pub block-payload-requires : goal.block-payload-requires
 block-payload-requires c =
-    room-live (live_of c.args.heap.now.bytes) c.args.handle (c.args.at + c.args.size) c.requires.room
+    live-if c.args.handle (c.args.at + c.args.size) (live_of c.args.heap.now.bytes).extents c.requires.room
 
 pub overflow_add-result : goal.overflow_add-result
 overflow_add-result c =

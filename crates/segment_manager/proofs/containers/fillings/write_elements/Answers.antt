@@ -1,7 +1,7 @@
 -- Each turn writes one more copy of the bytes.
 use Rattle.segment_manager.proofs.containers.fillings.write_elements.Goals as goal
 use Rattle.segment_manager.proofs.Common.{arith, length, ◌+◌, ◌<◌}
-use Rattle.segment_manager.proofs.objects.Exchanged.{Repeats, next-small, repeats-more, room-once_more}
+use Rattle.segment_manager.proofs.objects.Slices.{Repeats, next-small, repeats-more, room-once_more}
 
 pub overflow_mul-len : goal.overflow_mul-len
 overflow_mul-len c =

@@ -1,9 +1,8 @@
 -- Each turn takes one more item and writes it after the earlier ones.
 use Rattle.segment_manager.proofs.objects.constructing_from.fill_items.Goals as goal
-use Rattle.std.proofs.Common.{Fits, w64}
 use Rattle.segment_manager.proofs.Common.{IsTrue, ap, arith, has_room, live_of, size_of, subst, sym, ◌*◌, ◌+◌, ◌<◌, ◌≡◌}
-use Rattle.segment_manager.proofs.objects.ArrayItems.{filling-more, last-holds}
-use Rattle.segment_manager.proofs.objects.Exchanged.{next-small, room-once_more}
+use Rattle.segment_manager.proofs.objects.Slices.{filling-more, last-holds, next-small, room-once_more}
+use Rattle.std.proofs.Common.{Fits, w64}
 
 pub overflow_add-at : goal.overflow_add-at
 overflow_add-at g c =

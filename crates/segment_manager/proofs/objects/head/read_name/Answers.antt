@@ -1,15 +1,16 @@
 -- The name lies in the payload.
 use Rattle.segment_manager.proofs.objects.head.read_name.Goals as goal
 use Rattle.segment_manager.proofs.Common.{Object, ap, arith, length, live_of, part, ℕ, ◌%◌, ◌+◌, ◌-◌, ◌∙◌, ◌≡◌, ◌≤◌}
-use Rattle.segment_manager.proofs.objects.Exchanged.{lent, room-live}
+use Rattle.segment_manager.proofs.objects.Exchanged.{lent}
 use Rattle.segment_manager.proofs.objects.Standings.{head-words, standing-name, standing-room}
+use Rattle.seg_vector.proofs.storage.Storage.{live-if}
 
 pub word-len-requires : goal.word-len-requires
 word-len-requires c =
     standing-room c.args.heap.now.bytes c.args.handle 16 c.requires.object.0 c.requires.object.1 (omega arith)
 
 pub block-payload-requires : goal.block-payload-requires
-block-payload-requires c = room-live (live_of c.args.heap.now.bytes) c.args.handle 16
+block-payload-requires c = live-if c.args.handle 16 (live_of c.args.heap.now.bytes).extents
     (standing-room c.args.heap.now.bytes c.args.handle 16 c.requires.object.0 c.requires.object.1 (omega arith))
 
 pub slice_bounds-result-end : goal.slice_bounds-result-end

@@ -1,8 +1,8 @@
 -- The object of the handle is read.
 use Rattle.segment_manager.proofs.objects.instance_info.instance_here.Goals as goal
 use Rattle.segment_manager.proofs.Common.{AnswersWith, ByHandle, SaysOf, current, is_object_at, subst, sym, true}
-use Rattle.segment_manager.proofs.directory.AnyDirectory.{denotes-heap}
-use Rattle.segment_manager.proofs.objects.{Constructed.has-own_object, Destroys.handle-answers, Destroys.key-says}
+use Rattle.segment_manager.proofs.objects.{Destroys.key-says, Locating.has-own_object}
+use Rattle.segment_manager.proofs.{directory.AnyDirectory.denotes-heap, objects.Destroys.handle-answers}
 
 pub read_instance-requires-clause-heap : goal.read_instance-requires-clause-heap
 read_instance-requires-clause-heap c =

@@ -1,8 +1,8 @@
 -- The head of the object of the handle is read.
 use Rattle.segment_manager.proofs.objects.object_ref.object_here.Goals as goal
 use Rattle.segment_manager.proofs.Common.{ByHandle, IsLocated, subst, sym}
-use Rattle.segment_manager.proofs.objects.{Constructed.has-own_object, Locating.head-located, Locating.locates}
 use Rattle.segment_manager.proofs.objects.Destroys.{handle-answers}
+use Rattle.segment_manager.proofs.objects.Locating.{has-own_object, head-located, locates}
 
 pub read_object-requires : goal.read_object-requires
 read_object-requires c = has-own_object c.segment.view_is c.args.handle c.segment.invariant c.requires

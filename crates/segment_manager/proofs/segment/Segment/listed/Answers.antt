@@ -2,7 +2,7 @@
 use Rattle.seg_index.specs.declared.keys.Entry.TheVariants as entry
 use Rattle.segment_manager.proofs.segment.Segment.listed.Goals as goal
 use Rattle.segment_manager.proofs.{Common.current, directory.AnyDirectory.denotes-heap}
-use Rattle.segment_manager.proofs.objects.Constructed.{has-own_object, listed-kind, listed-name, listed-none}
+use Rattle.segment_manager.proofs.objects.Locating.{has-own_object, listed-kind, listed-name, listed-none}
 
 pub read_head-head-requires : goal.read_head-head-requires
 read_head-head-requires c = has-own_object c.self.view_is c.args.handle c.self.invariant c.requires

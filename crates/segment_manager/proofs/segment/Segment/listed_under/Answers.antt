@@ -1,7 +1,7 @@
 -- An entry that an object has is found.
 use Rattle.segment_manager.proofs.segment.Segment.listed_under.Goals as goal
-use Rattle.segment_manager.proofs.{indexes.Bridge.denotes-sorted_index, objects.Constructed.listed-found}
 use Rattle.segment_manager.proofs.Common.{HasEntries, IsListed, Some, subst, sym}
+use Rattle.segment_manager.proofs.{indexes.Bridge.denotes-sorted_index, objects.Locating.listed-found}
 
 pub lookup-requires-clause-index : goal.lookup-requires-clause-index
 lookup-requires-clause-index c = denotes-sorted_index c.args.index c.self.invariant.1.denotes

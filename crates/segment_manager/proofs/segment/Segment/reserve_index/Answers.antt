@@ -1,9 +1,14 @@
 -- The capacity suffices, or a larger block is allocated, or it has no fit.
 use Rattle.segment_manager.proofs.segment.Segment.reserve_index.Goals as goal
+use Rattle.seg_index.specs.declared.index.Index.TheVariants as index
 use Rattle.segment_manager.proofs.{directory.AnyDirectory.refuses-read_only, objects.Destroys.segment-index}
-use Rattle.segment_manager.proofs.Common.{reserve_of, sym, ◌∙◌}
-use Rattle.segment_manager.proofs.indexes.OtherTables.{reserve-changes, reserves, reserves-none}
+use Rattle.segment_manager.proofs.Common.{Index, is_changing, refl, reserve_of, sym, true, ℕ, ◌∙◌, ◌≡◌}
+use Rattle.segment_manager.proofs.indexes.OtherTables.{reserves, reserves-none}
 use Rattle.segment_manager.proofs.segment.Segment.reserve_index.Goals.{in-Err, in-Ok}
+
+reserve-changes : (i : Index) (n : ℕ) → is_changing (reserve_of i n) ≡ true
+reserve-changes index.Named n = refl
+reserve-changes index.Unique n = refl
 
 pub returns-then-is_read_only-clause-step : goal.returns-then-is_read_only-clause-step
 returns-then-is_read_only-clause-step c = refuses-read_only c.args.self.now (reserve_of c.args.index c.args.n)

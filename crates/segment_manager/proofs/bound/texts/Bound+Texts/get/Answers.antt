@@ -1,8 +1,7 @@
 -- The text is an element of the vector of strings.
 use Rattle.segment_manager.proofs.bound.texts.Bound+Texts.get.Goals as goal
-use Rattle.segment_manager.proofs.{bound.ByKey.container-here, bound.ByKey.texts-here, containers.ItemSteps.seen-reply}
-use Rattle.segment_manager.proofs.Common.{Get, StringsKind}
-use Rattle.segment_manager.proofs.containers.{Safely.of-error, TextListCalls.text-got}
+use Rattle.segment_manager.proofs.containers.{ItemSteps.seen-reply, Safely.of-error, TextListCalls.text-got}
+use Rattle.segment_manager.proofs.{Common.Get, Common.StringsKind, bound.ByKey.container-here, bound.ByKey.texts-here}
 use Rattle.segment_manager.specs.objects.BoundObjects.{key_of}
 
 pub get-requires : goal.get-requires

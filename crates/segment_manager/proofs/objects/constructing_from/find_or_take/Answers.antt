@@ -1,12 +1,12 @@
 -- An object is found under the entry, or made of items with one, or a block is refused.
-use Rattle.segment_manager.proofs.objects.finding_or_taking.find_or_take.Goals as goal
+use Rattle.segment_manager.proofs.objects.constructing_from.find_or_take.Goals as goal
 use Rattle.segment_manager.proofs.Common.{Err, IsObjectInBlock, Object, Scalar, ScalarKind, SegmentState, Write}
 use Rattle.segment_manager.proofs.Common.{exit-is, pair_of_kind, subst, sym, ◌≡◌}
-use Rattle.segment_manager.proofs.indexes.Bridge.{denotes-sorted_index}
-use Rattle.segment_manager.proofs.objects.{ArrayItems.always-holds, FilledCalls.none-items, FilledCalls.shaped-key}
-use Rattle.segment_manager.proofs.objects.Constructed.{key-seeks, key-short}
 use Rattle.segment_manager.proofs.objects.Destroys.{found-answers, has-object, place-below, segment-index}
 use Rattle.segment_manager.proofs.objects.FilledCalls.{begun-numbers, found-items, made-items_or_none, no-objects}
+use Rattle.segment_manager.proofs.objects.FilledCalls.{none-items, shaped-key}
+use Rattle.segment_manager.proofs.objects.{Constructed.key-short, Slices.always-holds}
+use Rattle.segment_manager.proofs.{indexes.Bridge.denotes-sorted_index, objects.Constructed.key-seeks}
 use Rattle.segment_manager.specs.objects.Items.{FindsOrTakesIn, TakesItemsIn}
 
 pub lookup-requires-clause-index : goal.lookup-requires-clause-index

@@ -2,7 +2,7 @@
 use Rattle.segment_manager.proofs.Common.{exit-is, ◌≡◌, sym, ap, ◌∙◌, ℕ, Bool, Result, Ok, Err, if◌then◌else◌, Kind}
 use Rattle.segment_manager.proofs.Common.{Object, Refusal, WrongKind, count_of, handle, kind_of, pair_of_kind}
 use Rattle.segment_manager.proofs.containers.RangeCalls.{no-same}
-use Rattle.segment_manager.proofs.objects.finding_or_constructing.found_of.Goals as goal
+use Rattle.segment_manager.proofs.objects.finding.found_of.Goals as goal
 
 other-pair : (o : Object) (kind : Kind) {why : Refusal} → why ≡ WrongKind → (kind_of o.value ≡ kind → ⊥)
     → Err why ≡ pair_of_kind o kind

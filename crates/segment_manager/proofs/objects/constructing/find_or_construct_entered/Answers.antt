@@ -1,6 +1,6 @@
 -- An object is found under the entry, or made with one, or a block is refused.
 use Rattle.seg_types.specs.Commands as asked
-use Rattle.segment_manager.proofs.objects.finding_or_constructing.find_or_construct_entered.Goals as goal
+use Rattle.segment_manager.proofs.objects.constructing.find_or_construct_entered.Goals as goal
 use Rattle.segment_manager.proofs.Common.{Constructs, Err, FindsOrConstructs, IsNewKeyOf, IsObjectInBlock, Object, Ok}
 use Rattle.segment_manager.proofs.Common.{SegmentState, Write, bare, exit-is, found_object_answer, kind_of}
 use Rattle.segment_manager.proofs.Common.{pair_of_kind, subst, sym, with_count, ◌≡◌}

@@ -1,3 +1,5 @@
+use Rattle.std.proofs.Common.{ap}
+use Rattle.segment_values.specs.Asked.{length_in}
 use Rattle.segment_values.proofs.LaidElements.{others-counted, scalars-counted, string-counted}
 use Rattle.segment_values.proofs.contents.count_of.Goals as goal
 
@@ -8,6 +10,10 @@ returns-in-Scalar c = scalars-counted c.args.segment.now c.args.object c.require
 pub returns-in-String : goal.returns-in-String
 returns-in-String c = string-counted c.args.segment.now c.args.object c.requires c.in-String.is
 
-pub returns-in_default : goal.returns-in_default
-returns-in_default c = others-counted c.args.segment.now c.args.object c.requires c.length_of.result
-    c.in_default.not-Scalar c.in_default.not-String c.length_of.ensures
+pub returns-in-Ok : goal.returns-in-Ok
+returns-in-Ok c = others-counted c.args.segment.now c.args.object c.requires _ c.in_default.not-Scalar
+    c.in_default.not-String (record { answers = λ d k. ap length_in (c.in-Ok.ensures.answers d k) })
+
+pub returns-in-Err : goal.returns-in-Err
+returns-in-Err c = others-counted c.args.segment.now c.args.object c.requires _ c.in_default.not-Scalar
+    c.in_default.not-String (record { answers = λ d k. ap length_in (c.in-Err.ensures.answers d k) })

@@ -1,7 +1,7 @@
 -- There are as many texts as the list has.
 use Rattle.segment_manager.specs.objects.BoundObjects.{key_of}
-use Rattle.segment_views.proofs.string_lists.TextReads.{texts-many}
-use Rattle.segment_views.proofs.string_lists.StringsTextSequence.iter.Goals as goal
+use Rattle.segment_views.proofs.elements.ElementReads.{texts-many}
+use Rattle.segment_views.proofs.elements.StringsTextSequence.iter.Goals as goal
 
 pub invariant_of-result : goal.invariant_of-result
 invariant_of-result c =

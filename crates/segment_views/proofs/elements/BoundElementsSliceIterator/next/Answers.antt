@@ -1,8 +1,8 @@
 -- What is read stands at the place.
 use Rattle.std.proofs.Common.{refl, sym, ◌∙◌}
 use Rattle.segment_manager.specs.objects.{BoundObjects.key_of, ElementLists.numbers_at}
-use Rattle.segment_views.proofs.slices.SliceSteps.{reads-item}
-use Rattle.segment_views.proofs.slices.BoundElementsSliceIterator.next.Goals as goal
+use Rattle.segment_views.proofs.elements.ElementReads.{reads-item}
+use Rattle.segment_views.proofs.elements.BoundElementsSliceIterator.next.Goals as goal
 
 pub returns-in_err-value-clause-steps : goal.returns-in_err-value-clause-steps
 returns-in_err-value-clause-steps g c =

@@ -1,9 +1,8 @@
 //! Writes the contents of an object: its elements, one after another, in any layout.
 ghost use Rattle.std.specs.Prelude.{◌≡◌, ◌-◌, ◌^◌, ◌<◌};
 ghost use Rattle.raw_region.specs.Device.{Writes};
-ghost use Rattle.seg_types.specs.Values.{kind_of_scalar, value_of_scalar};
-ghost use Rattle.seg_types.specs.{Names.ByHandle, declared.kinds.ScalarKind.ScalarKind as AnyScalarKind};
-ghost use Rattle.seg_types.specs.declared.kinds.Kind.TheVariants.{Map as MapOf};
+ghost use Rattle.seg_types.specs.{Names.ByHandle, Values.kind_of_scalar, Values.value_of_scalar};
+ghost use Rattle.seg_types.specs.declared.kinds.{Kind.TheVariants.Map as MapOf, ScalarKind.ScalarKind as AnyScalarKind};
 ghost use Rattle.segment_manager.specs.{Parts.parts_until, State.AnswersWith, State.DenotesCurrent};
 ghost use Rattle.segment_manager.specs.objects.{BoundObjects.IsBound, Located.IsLocated};
 ghost use Rattle.segment_values.specs.{Asked.pair_part, Writing.WritesFor};

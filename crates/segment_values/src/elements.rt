@@ -2,15 +2,14 @@
 //! vectors: one with a value as callers write it, or several of a type.
 ghost use Rattle.std.specs.Prelude.{◌≡◌, ◌*◌, ◌≤◌, MatchResult, OnErr, OnOk, false, length, map, List, ℤ};
 ghost use Rattle.std.specs.Iterator.{YieldsFirst, item_count};
-ghost use Rattle.seg_types.specs.declared.kinds.Kind.TheVariants.{Scalar as ScalarOf};
-ghost use Rattle.seg_types.specs.{declared.kinds.Kind.TheVariants.Vector as VectorOf, Keys.key_seen, Keys.new_key_seen};
-ghost use Rattle.seg_types.specs.{declared.kinds.ScalarKind.ScalarKind as AnyScalarKind, Names.ByHandle};
+ghost use Rattle.seg_types.specs.declared.kinds.Kind.TheVariants.{Scalar as ScalarOf, Vector as VectorOf};
+ghost use Rattle.seg_types.specs.{Keys.key_seen, Keys.new_key_seen, Values.kind_of_scalar, Written.literal_seen};
+ghost use Rattle.seg_types.specs.{Names.ByHandle, Written.NoText, declared.kinds.ScalarKind.ScalarKind as AnyScalar};
 ghost use Rattle.seg_types.specs.Commands.{ConstructIt, Erase, Get, Set};
-ghost use Rattle.seg_types.specs.{Values.kind_of_scalar, Written.NoText, Written.literal_seen};
-ghost use Rattle.segment_manager.specs.{Calls.scalar_reply, Keeping.ChangesElement, Step.is_read_only};
+ghost use Rattle.segment_manager.specs.{Calls.scalar_reply, Keeping.ChangesElement, State.handle_answer};
 ghost use Rattle.segment_manager.specs.objects.{BoundObjects.IsBound, Located.IsObject, NewObjects.IsOfKind};
 ghost use Rattle.segment_manager.specs.State.{AnswersWith, TakesStep, TakesStepOfKind, UnchangedIfRefused, done_answer};
-ghost use Rattle.segment_manager.specs.State.{handle_answer, scalar_answer};
+ghost use Rattle.segment_manager.specs.{State.scalar_answer, Step.is_read_only};
 ghost use Rattle.segment_values.specs.Changes.{IsChangeableObject, IsUnchangeable, command_at};
 ghost use Rattle.segment_values.specs.Ranges.{AreSpelled, is_slice, range_at, read_into};
 
@@ -206,7 +205,7 @@ pub fn set<L: WrittenValue>(
     ensures step { TakesStep segment.old segment.new (Set (key_seen key.now) index (L.literal value.now))
         (done_answer result) }
     ensures refused { OnErr result (segment.new ≡ segment.old) }
-    ensures element { OnOk result ((k : AnyScalarKind)
+    ensures element { OnOk result ((k : AnyScalar)
         → ChangesElement segment.old segment.new (key_seen key.now) k index) }
 {
     let object = object_to_change(segment, key)?;

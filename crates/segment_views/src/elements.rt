@@ -70,9 +70,8 @@ pub type VectorItems<'a, T> = SliceItems<'a, T, Growable>;
 
 impl<'a, C: BoundContent> Model for BoundElements<'a, C> {
     ghost use Rattle.std.specs.Prelude.{length};
-    ghost use Rattle.segment_manager.specs.objects.BoundObjects.{key_of};
-    ghost use Rattle.segment_manager.specs.objects.ElementLists.{numbers_at};
     ghost use Rattle.segment_manager.specs.State.{AnswersWith};
+    ghost use Rattle.segment_manager.specs.objects.{BoundObjects.key_of, ElementLists.numbers_at};
     ghost use Rattle.segment_views.specs.Walked.{ElementWalk};
 
     ghost Value = { ElementWalk };

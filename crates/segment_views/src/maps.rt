@@ -1,8 +1,6 @@
 //! The pairs of maps, those with keys in a range, one after another from either end.
 ghost use Rattle.std.specs.Prelude.{◌≡◌, [], drop, slice_get};
-ghost use Rattle.std.specs.Iterator.{at_most};
-ghost use Rattle.std.specs.Range.Bound.{bound_map};
-ghost use Rattle.std.specs.declared.ops.Bound.TheVariants.{Unbounded};
+ghost use Rattle.std.specs.{Iterator.at_most, Range.Bound.bound_map, declared.ops.Bound.TheVariants.Unbounded};
 ghost use Rattle.seg_types.specs.Kinds.{lowest as lowest_of};
 ghost use Rattle.segment_manager.specs.{objects.BoundObjects.key_of, State.AnswersWith};
 ghost use Rattle.segment_manager.specs.containers.{Maps.numbers_in, Walks.pairs_at_kinds};

@@ -12,9 +12,6 @@ returns-in-Map g c =
     (map-said c.args.segment.now c.args.object c.requires.object c.in-Map.keys c.in-Map.values c.in-Map.is
     (g.L.Layout.spelling c.args.layout.now) c.args.count c.requires.count)
 
-pub elements-init : goal.elements-init
-elements-init g c = of-start (λ d. part_at (g.L.Layout.spelling c.args.layout.now) d (ByHandle c.args.object.handle))
-
 pub returns-in_err-put_element : goal.returns-in_err-put_element
 returns-in_err-put_element g c =
     let sp = g.L.Layout.spelling c.args.layout.now in let key = ByHandle c.args.object.handle in

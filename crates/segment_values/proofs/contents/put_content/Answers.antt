@@ -2,7 +2,7 @@ use Rattle.std.proofs.Common.{◌<◌, ap, subst, ◌∙◌, arith}
 use Rattle.seg_types.specs.Names.{ByHandle}
 use Rattle.segment_manager.specs.Parts.{parts_until}
 use Rattle.segment_values.specs.Layouts.{count_at, part_at}
-use Rattle.segment_values.proofs.Owed.{of-all, of-cut_in, of-more, of-same, of-start}
+use Rattle.segment_values.proofs.Owed.{of-all, of-cut_in, of-more, of-same}
 use Rattle.segment_values.proofs.{LaidElements.parts-at, pairs.Walk.map-said}
 use Rattle.segment_values.proofs.contents.put_content.Goals as goal
 

@@ -5,14 +5,10 @@ use Rattle.std.specs.Option.{ok_or}
 use Rattle.raw_region.proofs.Laws.{read-part}
 use Rattle.seg_types.specs.{declared.refusals.Refusal.TheVariants.WrongKind, Kinds.size_of, Names.ByHandle}
 use Rattle.seg_types.specs.Values.{SpelledBy}
-use Rattle.segment_manager.proofs.ElementLaws.{run-past, run-reads, run-refused}
-use Rattle.segment_values.proofs.{Exits.exit-is, elements.InPlace.element-inside, elements.InPlace.slice-part}
+use Rattle.segment_manager.proofs.ElementLaws.{run-past, run-reads}
+use Rattle.segment_values.proofs.{elements.InPlace.element-inside, elements.InPlace.slice-part}
 use Rattle.segment_values.proofs.elements.get_element.Goals.{in-I64, in_default}
 use Rattle.segment_values.proofs.elements.get_element.Goals as goal
-
-pub returns-in_err-run : goal.returns-in_err-run
-returns-in_err-run c = rw (exit-is c.from_residual.ensures.1)
-    (run-refused c.args.segment.now (ByHandle c.args.object.handle) c.args.index _ c.in_err-run.ensures.run)
 
 pub returns : goal.returns
 returns c =

@@ -17,7 +17,7 @@ use crate::showing::put_text_at;
 use raw_region::{DeviceFault, Sink};
 use seg_types::{Key, Kind, Refusal, ScalarKind, ScalarValue, by_kind};
 use segment_manager::{Object, Segment, StringsMut, VectorMut};
-use segment_values::{length_of, object_to_change};
+use segment_values::{count_of, object_to_change};
 
 /// Removes the last element of a vector and writes it, or writes the refusal: `ReadOnly` if the segment is open for
 /// reading. Otherwise `NotFound` if no object has the key, `WrongKind` if it is no vector, `OutOfRange` if it is empty.
@@ -56,7 +56,7 @@ fn pop_text<W: Sink>(
     ensures outcome { AnswersFor (W.history out.old) (W.history out.new) result (DenotesCurrent segment.old.cut.bytes)
         (λ d. (step segment.old.mode d (Pop (ByHandle object.handle))).0) }
 {
-    let last = length_of(segment, object).saturating_sub(1);
+    let last = count_of(segment, object).saturating_sub(1);
     let written = put_text_at(segment, object, last, out);
     // why there is none was written
     let _ = StringsMut::at(segment, object).pop();

@@ -1,13 +1,11 @@
 //! Writes the contents of an object: its elements, one after another, in any layout.
 ghost use Rattle.std.specs.Prelude.{◌≡◌, ◌-◌, ◌^◌, ◌<◌};
 ghost use Rattle.raw_region.specs.Device.{Writes};
-ghost use Rattle.seg_types.specs.Values.{kind_of_scalar, value_of_scalar};
-ghost use Rattle.seg_types.specs.{Names.ByHandle, declared.kinds.ScalarKind.ScalarKind as AnyScalarKind};
-ghost use Rattle.seg_types.specs.declared.kinds.Kind.TheVariants.{Map as MapOf};
+ghost use Rattle.seg_types.specs.{Names.ByHandle, Values.kind_of_scalar, Values.value_of_scalar};
+ghost use Rattle.seg_types.specs.declared.kinds.{Kind.TheVariants.Map as MapOf, ScalarKind.ScalarKind as AnyScalarKind};
 ghost use Rattle.segment_manager.specs.{Parts.parts_until, State.AnswersWith, State.DenotesCurrent};
-ghost use Rattle.segment_manager.specs.containers.Contents.{sizes_at};
-ghost use Rattle.segment_manager.specs.objects.{BoundObjects.IsBound, Located.IsLocated, Located.IsObject};
-ghost use Rattle.segment_values.specs.{Asked.length_in, Asked.pair_part, Writing.WritesFor};
+ghost use Rattle.segment_manager.specs.objects.{BoundObjects.IsBound, Located.IsLocated};
+ghost use Rattle.segment_values.specs.{Asked.pair_part, Writing.WritesFor};
 ghost use Rattle.segment_values.specs.Layouts.{count_at, laid_at, part_at};
 
 use crate::elements::get_element;
@@ -64,18 +62,10 @@ pub fn count_of(segment: &Segment, object: Object) -> u64
     match object.kind {
         Kind::Scalar(_) => u64::from(object.count),
         Kind::String => 1,
-        _ => length_of(segment, object),
-    }
-}
-
-/// Returns the number of elements of a vector, string or map; 0 for any other object.
-pub fn length_of(segment: &Segment, object: Object) -> u64
-    requires { IsObject object segment.now }
-    ensures { AnswersWith segment.now (λ d. length_in (sizes_at d (ByHandle object.handle))) result }
-{
-    match measure_object(segment, object) {
-        Ok((len, _)) => len,
-        Err(_) => 0,
+        _ => match measure_object(segment, object) {
+            Ok((len, _)) => len,
+            Err(_) => 0,
+        },
     }
 }
 

@@ -2,15 +2,14 @@
 //! vectors: one with a value as callers write it, or several of a type.
 ghost use Rattle.std.specs.Prelude.{◌≡◌, ◌*◌, ◌≤◌, MatchResult, OnErr, OnOk, false, length, map, List, ℤ};
 ghost use Rattle.std.specs.Iterator.{YieldsFirst, item_count};
-ghost use Rattle.seg_types.specs.declared.kinds.Kind.TheVariants.{Scalar as ScalarOf, Strings as StringsKind};
-ghost use Rattle.seg_types.specs.{declared.kinds.Kind.TheVariants.Vector as VectorOf, Keys.key_seen, Keys.new_key_seen};
-ghost use Rattle.seg_types.specs.{declared.kinds.ScalarKind.ScalarKind as AnyScalarKind, Kinds.size_of, Names.ByHandle};
-ghost use Rattle.seg_types.specs.Commands.{ConstructIt, Erase, Get, Quoted, Set};
-ghost use Rattle.seg_types.specs.{Values.SpelledBy, Values.kind_of_scalar, Written.NoText, Written.literal_seen};
-ghost use Rattle.segment_manager.specs.{Calls.scalar_reply, Keeping.ChangesElement, Step.is_read_only};
+ghost use Rattle.seg_types.specs.declared.kinds.Kind.TheVariants.{Scalar as ScalarOf, Vector as VectorOf};
+ghost use Rattle.seg_types.specs.{Keys.key_seen, Keys.new_key_seen, Values.kind_of_scalar, Written.literal_seen};
+ghost use Rattle.seg_types.specs.{Names.ByHandle, Written.NoText, declared.kinds.ScalarKind.ScalarKind as AnyScalar};
+ghost use Rattle.seg_types.specs.Commands.{ConstructIt, Erase, Get, Set};
+ghost use Rattle.segment_manager.specs.{Calls.scalar_reply, Keeping.ChangesElement, State.handle_answer};
 ghost use Rattle.segment_manager.specs.objects.{BoundObjects.IsBound, Located.IsObject, NewObjects.IsOfKind};
 ghost use Rattle.segment_manager.specs.State.{AnswersWith, TakesStep, TakesStepOfKind, UnchangedIfRefused, done_answer};
-ghost use Rattle.segment_manager.specs.State.{handle_answer, scalar_answer};
+ghost use Rattle.segment_manager.specs.{State.scalar_answer, Step.is_read_only};
 ghost use Rattle.segment_values.specs.Changes.{IsChangeableObject, IsUnchangeable, command_at};
 ghost use Rattle.segment_values.specs.Ranges.{AreSpelled, is_slice, range_at, read_into};
 
@@ -126,20 +125,13 @@ pub fn get_element(segment: &Segment, object: Object, index: u64) -> Result<Scal
     }
     let size = run.kind.size();
     let from = (run.offset + size * index) as usize;
-    read_value(run.kind, &image[from..from + size as usize]).ok_or(Refusal::WrongKind)
-}
-
-/// Returns the value of the kind that `bytes` encode, or `None` if they encode none. An `i64`, the kind that is read
-/// most, is read without a call.
-#[inline(always)]
-fn read_value(kind: ScalarKind, bytes: &[u8]) -> Option<ScalarValue>
-    requires { length bytes.now ≡ size_of kind }
-    ensures { SpelledBy kind bytes.now result }
-{
-    if let ScalarKind::I64 = kind {
-        return scalar_is_number::<i64>(bytes).map(ScalarValue::I64);
-    }
-    ScalarValue::read(kind, bytes)
+    let bytes = &image[from..from + size as usize];
+    // an `i64`, the kind that is read most, is read without a call
+    let value = match run.kind {
+        ScalarKind::I64 => scalar_is_number::<i64>(bytes).map(ScalarValue::I64),
+        kind => ScalarValue::read(kind, bytes),
+    };
+    value.ok_or(Refusal::WrongKind)
 }
 
 /// Copies elements of a located object into a row: as many as the row has, from `first` on. The object is an array or a
@@ -213,7 +205,7 @@ pub fn set<L: WrittenValue>(
     ensures step { TakesStep segment.old segment.new (Set (key_seen key.now) index (L.literal value.now))
         (done_answer result) }
     ensures refused { OnErr result (segment.new ≡ segment.old) }
-    ensures element { OnOk result ((k : AnyScalarKind)
+    ensures element { OnOk result ((k : AnyScalar)
         → ChangesElement segment.old segment.new (key_seen key.now) k index) }
 {
     let object = object_to_change(segment, key)?;
@@ -306,7 +298,10 @@ pub fn add<L: WrittenValue>(
             insert_scalar(segment, object, spot, element)
         }
         Kind::Strings => match value.text(scratch) {
-            Some(text) => insert_text(segment, object, spot, text),
+            Some(text) => match spot {
+                InsertSpot::End => StringsMut::at(segment, object).push(text),
+                InsertSpot::Before(index) => StringsMut::at(segment, object).insert(index, text),
+            },
             None => Err(Refusal::WrongKind),
         },
         _ => Err(Refusal::WrongKind),
@@ -336,25 +331,6 @@ pub fn insert_scalar(
         InsertSpot::Before(index) => {
             by_value!(value, it => VectorMut::at(segment, object).insert(index, it))
         }
-    }
-}
-
-/// Inserts a text into a vector of strings.
-fn insert_text(
-    segment: &mut Segment,
-    object: Object,
-    spot: InsertSpot,
-    text: &[u8],
-) -> Result<(), Refusal>
-    requires object { IsBound StringsKind object segment.old }
-    requires writing { is_read_only segment.old.mode ≡ false }
-    ensures step { TakesStepOfKind segment.old segment.new (ByHandle object.handle) StringsKind
-        (command_at spot (ByHandle object.handle) (Quoted text.now)) (done_answer result) }
-    ensures refused { UnchangedIfRefused segment.old segment.new result }
-{
-    match spot {
-        InsertSpot::End => StringsMut::at(segment, object).push(text),
-        InsertSpot::Before(index) => StringsMut::at(segment, object).insert(index, text),
     }
 }
 

@@ -9,7 +9,7 @@ mod contents;
 mod elements;
 mod pairs;
 
-pub use contents::{Layout, count_of, length_of, put_content};
+pub use contents::{Layout, count_of, put_content};
 pub use elements::{
     InsertSpot, add, construct_array, erase, get, get_element, insert_scalar, object_to_change,
     read_elements, set, set_array_element,

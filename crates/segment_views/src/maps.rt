@@ -1,8 +1,6 @@
 //! The pairs of maps, those with keys in a range, one after another from either end.
 ghost use Rattle.std.specs.Prelude.{◌≡◌, [], drop, slice_get};
-ghost use Rattle.std.specs.Iterator.{at_most};
-ghost use Rattle.std.specs.Range.Bound.{bound_map};
-ghost use Rattle.std.specs.declared.ops.Bound.TheVariants.{Unbounded};
+ghost use Rattle.std.specs.{Iterator.at_most, Range.Bound.bound_map, declared.ops.Bound.TheVariants.Unbounded};
 ghost use Rattle.seg_types.specs.Kinds.{lowest as lowest_of};
 ghost use Rattle.segment_manager.specs.{objects.BoundObjects.key_of, State.AnswersWith};
 ghost use Rattle.segment_manager.specs.containers.{Maps.numbers_in, Walks.pairs_at_kinds};
@@ -43,9 +41,18 @@ impl<'a, K: Scalar, V: Scalar> MapRanges<K, V> for Map<'a, K, V> {
         ensures start { R.has_bounds range → result.start ≡ bound_map K.whole (R.start_bound range) }
         ensures end { R.has_bounds range → result.end ≡ bound_map K.whole (R.end_bound range) }
     {
-        let start = bound_by_value(range.start_bound());
-        let end = bound_by_value(range.end_bound());
-        pairs_between(self, start, end)
+        MapItems {
+            map: *self,
+            start: range.start_bound().map(|key| *key),
+            end: range.end_bound().map(|key| *key),
+            left: self.len(),
+            ahead: NodesAhead {
+                nodes: [0; MOST],
+                at: 0,
+                count: 0,
+            },
+            of: PhantomData,
+        }
     }
 
     fn iter(&self) -> MapItems<'_, K, V>
@@ -54,30 +61,7 @@ impl<'a, K: Scalar, V: Scalar> MapRanges<K, V> for Map<'a, K, V> {
         ensures start { result.start ≡ Unbounded }
         ensures end { result.end ≡ Unbounded }
     {
-        pairs_between(self, Bound::Unbounded, Bound::Unbounded)
-    }
-}
-
-/// Makes the pairs of a map with keys between two bounds.
-fn pairs_between<'a, K: Scalar, V: Scalar>(
-    map: &Map<'a, K, V>,
-    start: Bound<K>,
-    end: Bound<K>,
-) -> MapItems<'a, K, V>
-    ensures { result ≡ walk_of map.now.segment.now map.now.object (bound_map K.whole start) (bound_map K.whole end)
-        result.left }
-{
-    MapItems {
-        map: *map,
-        start,
-        end,
-        left: map.len(),
-        ahead: NodesAhead {
-            nodes: [0; MOST],
-            at: 0,
-            count: 0,
-        },
-        of: PhantomData,
+        self.range(..)
     }
 }
 
@@ -211,17 +195,6 @@ impl NodesAhead {
         let most = if self.count == 0 { FIRST } else { MOST };
         self.count = map.nodes_from(from, past, &mut self.nodes[..most]);
         self.at = 0;
-    }
-}
-
-/// Returns a bound of a value that is lent, as one that has it.
-fn bound_by_value<K: Scalar>(bound: Bound<&K>) -> Bound<K>
-    ensures { result ≡ bound_map (λ key. key.now) bound.entry }
-{
-    match bound {
-        Bound::Included(key) => Bound::Included(*key),
-        Bound::Excluded(key) => Bound::Excluded(*key),
-        Bound::Unbounded => Bound::Unbounded,
     }
 }
 

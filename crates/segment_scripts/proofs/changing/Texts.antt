@@ -1,6 +1,7 @@
 -- Commands on the texts of a vector of strings as a line writes them.
 use Rattle.std.proofs.Common.{◌≡◌, refl, sym, ap, subst, ◌∙◌, ℕ, ◌-◌, ◌≤◌, Bool, true, false, ◌&&◌, if◌then◌else◌}
 use Rattle.std.proofs.Common.{Option, Some, None, Result, Ok, Err, List, ◌∷◌, [], length, map, take, arith}
+use Rattle.std.proofs.lemmas.List.{length-map}
 use Rattle.std.specs.Prelude.{OnErr, slice_get}
 use Rattle.best_fit.specs.Table.{BackingArray}
 use Rattle.seg_types.specs.declared.kinds.Kind.TheVariants.{Map as MapKind, Scalar, String, Strings as StringsKind}
@@ -18,7 +19,6 @@ use Rattle.segment_manager.specs.declared.modes.Mode.{Mode}
 use Rattle.segment_manager.specs.declared.objects.object_ref.Object.{Object as Located}
 use Rattle.segment_manager.specs.Answers.{Answer, Done, Refused, TextElement, is_untouched, refusal_of}
 use Rattle.segment_manager.specs.Calls.{kind_at}
-use Rattle.segment_manager.specs.containers.Contents.{sizes_at, sizes_of}
 use Rattle.segment_manager.specs.Directory.{Value, Numbers, Elements, Bytes, Pairs, Texts, Object, Directory, kind_of}
 use Rattle.segment_manager.specs.Directory.{live, object_at}
 use Rattle.segment_manager.specs.objects.Instances.{IsMissing}
@@ -38,10 +38,11 @@ use Rattle.segment_scripts.specs.Replies.{answer_seen, bytes_taken, text_at, tex
 use Rattle.segment_scripts.specs.declared.answered.Answered.{Answered}
 use Rattle.segment_scripts.specs.Refusing.{AnswersFor}
 use Rattle.raw_region.specs.Device.{WriterHistory}
-use Rattle.segment_scripts.specs.Shown.{length_in}
 use Rattle.segment_manager.proofs.CommandLaws.{IsTexts, answered-reads, open-writing, refuses, step-effect}
 use Rattle.segment_manager.proofs.CommandLaws.{texts-if, told}
 use Rattle.segment_scripts.proofs.values.Keys.{kind-same}
+use Rattle.segment_values.specs.{Contents.bytes_in, Contents.content_of, Contents.count_of_content, Layouts.count_at}
+use Rattle.segment_values.proofs.LaidElements.{count_of_object}
 use Rattle.segment_scripts.proofs.segments.Refusals.{answers-before}
 
 -- ---- literals that are texts
@@ -135,18 +136,15 @@ module _ (s : SegmentState) (key : Key) (a : AnswersWith s (λ d. kind_at d key)
 
   -- ---- the last one
 
-  abbrev sizes_of_object : Option Object → Result (ℕ × ℕ) Refusal
-  sizes_of_object r = elim r as (λ _. Result (ℕ × ℕ) Refusal) [ None ↦ Err NotFound | Some o ↦ sizes_of o.value ]
-
   -- the text before the length of the vector is what is taken out
-  pub pop-text : (n : ℕ) → is_read_only s.mode ≡ false → AnswersWith s (λ d. length_in (sizes_at d key)) n
+  pub pop-text : (n : ℕ) → is_read_only s.mode ≡ false → AnswersWith s (λ d. count_at d key) n
       → (d : Directory) → DenotesCurrent s.cut.bytes d → text_at d key (n - 1) ≡ (step.step s.mode d (asked.Pop key)).0
   pop-text n writing long d st =
       let o : Object = (found d st).object in
       let h : IsTexts o.value = held d st in
       let len : n ≡ length h.texts =
-      long.answers d st ∙ ap (λ (r : Option Object). length_in (sizes_of_object r)) (found d st).is
-      ∙ ap (λ v. length_in (sizes_of v)) h.is in
+      long.answers d st ∙ ap count_of_object (found d st).is
+      ∙ ap (λ v. count_of_content (content_of v)) h.is ∙ length-map h.texts bytes_in in
       ap (λ m. text_at d key (m - 1)) len
       ∙ ap (λ r. text_in r (length h.texts - 1)) (found d st).is ∙ ap (λ v. text_of v (length h.texts - 1)) h.is
       ∙ text-taken d (slice_get h.texts (length h.texts - 1)) (λ p.

@@ -9,8 +9,11 @@ use Rattle.segment_manager.proofs.Laws.{of-change, of_kind-leads_on}
 use Rattle.segment_scripts.specs.Replies.{text_at}
 use Rattle.segment_scripts.proofs.segments.Refusals.{answers-same}
 use Rattle.segment_scripts.proofs.changing.Texts.{executes-leading, pop-text}
-use Rattle.segment_values.proofs.Located.{bound-to-change}
+use Rattle.segment_values.proofs.Located.{bound-to-change, of-handle}
 use Rattle.segment_scripts.proofs.popping.pop_text.Goals as goal
+
+pub count_of-requires : goal.count_of-requires
+count_of-requires g c = of-handle c.requires.object.there
 
 pub returns-clause-execution : goal.returns-clause-execution
 returns-clause-execution g c =
@@ -31,5 +34,5 @@ returns-clause-outcome g c =
     let key = key_of c.args.object in
     answers-same c.put_text_at-written.ensures
     (λ d st. ap (λ i. text_at d key i) c.saturating_sub-last.ensures
-    ∙ pop-text s key (bound-to-change c.requires.object c.requires.writing).is c.length_of.result c.requires.writing
-    c.length_of.ensures d st)
+    ∙ pop-text s key (bound-to-change c.requires.object c.requires.writing).is c.count_of.result c.requires.writing
+    c.count_of.ensures d st)

@@ -2,24 +2,15 @@ use Rattle.std.proofs.Common.{◌<◌, ap, subst, ◌∙◌, arith}
 use Rattle.seg_types.specs.Names.{ByHandle}
 use Rattle.segment_manager.specs.Parts.{parts_until}
 use Rattle.segment_values.specs.Layouts.{count_at, part_at}
-use Rattle.segment_values.proofs.Owed.{of-all, of-cut_in, of-more, of-same, of-start}
+use Rattle.segment_values.proofs.Owed.{of-all, of-cut_in, of-more, of-same}
 use Rattle.segment_values.proofs.{LaidElements.parts-at, pairs.Walk.map-said}
 use Rattle.segment_values.proofs.contents.put_content.Goals as goal
-
-pub put_pairs-requires-clause-object : goal.put_pairs-requires-clause-object
-put_pairs-requires-clause-object g c = record { there = c.requires.object.here; of_kind = c.in-Map.is }
 
 pub returns-in-Map : goal.returns-in-Map
 returns-in-Map g c =
     of-same c.put_pairs.ensures
     (map-said c.args.segment.now c.args.object c.requires.object c.in-Map.keys c.in-Map.values c.in-Map.is
     (g.L.Layout.spelling c.args.layout.now) c.args.count c.requires.count)
-
-pub elements-init : goal.elements-init
-elements-init g c = of-start (λ d. part_at (g.L.Layout.spelling c.args.layout.now) d (ByHandle c.args.object.handle))
-
-pub put_element-requires-clause-kind : goal.put_element-requires-clause-kind
-put_element-requires-clause-kind g c = c.in_default.not-Map
 
 pub returns-in_err-put_element : goal.returns-in_err-put_element
 returns-in_err-put_element g c =

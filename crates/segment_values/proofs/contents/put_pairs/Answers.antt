@@ -9,9 +9,6 @@ use Rattle.segment_values.proofs.Owed.{of-all, of-cut_in, of-more, of-start}
 use Rattle.segment_values.proofs.contents.put_pairs.Goals.{in-Some+in_ok-put_pair, in_default}
 use Rattle.segment_values.proofs.contents.put_pairs.Goals as goal
 
-pub pair_past-requires : goal.pair_past-requires
-pair_past-requires g c = rw c.pairs.invariant.kind c.requires.object
-
 pub returns-in_err-put_pair : goal.returns-in_err-put_pair
 returns-in_err-put_pair g c =
     let s = c.args.segment.now in let h = c.args.object.handle in let k = c.args.keys in let v = c.args.values in

@@ -1,5 +1,10 @@
+use Rattle.std.proofs.Common.{◌≡◌, rules}
+use Rattle.seg_types.specs.{declared.kinds.Kind.TheVariants.Strings, Commands.Insert, Commands.Push, Commands.Quoted}
+use Rattle.segment_manager.specs.{State.TakesStepOfKind, State.done_answer, objects.BoundObjects.key_of}
 use Rattle.segment_manager.proofs.CommandLaws.{element-read, no_text-element, no_value-element, no_vector-element}
 use Rattle.segment_manager.proofs.CommandLaws.{to-change, unchangeable-element}
+use Rattle.segment_manager.proofs.Laws.{of-change}
+use Rattle.segment_values.specs.declared.elements.InsertSpot.TheVariants.{Before, End}
 use Rattle.segment_values.proofs.Exits.{exit-is}
 use Rattle.segment_values.proofs.elements.Insertion.{add-refused, scalar-added, text-added}
 use Rattle.segment_values.proofs.elements.add.Goals as goal
@@ -20,12 +25,21 @@ returns-in_ok-element-in-Vector-clause-step g c =
     (element-read c.in_ok-object.ensures c.in-Vector.is c.in_ok-element-in-Vector.element
     c.in_ok-element-in-Vector.ensures) c.insert_scalar.ensures.step
 
-pub returns-in-Some-clause-step : goal.returns-in-Some-clause-step
-returns-in-Some-clause-step g c =
-    text-added c.in_ok-object.ensures.located c.args.spot c.in-Strings.is c.in-Some.ensures c.insert_text.ensures.step
+pub returns-in-End-clause-step : goal.returns-in-End-clause-step
+returns-in-End-clause-step g c =
+    let e : c.push.new.self.segment.now ≡ c.segment-1.given.0 = search rules in
+    rw c.in-End.is (text-added c.in_ok-object.ensures.located End c.in-Strings.is c.in-Some.ensures
+    (of-change (λ o u v. TakesStepOfKind u v (key_of o) Strings (Push (key_of o) (Quoted c.in-Some.text.now))
+    (done_answer c.push.result)) c.at.ensures.object c.at.ensures.segment e c.push.ensures.step))
 
-pub returns-in-Some-clause-scalar : goal.returns-in-Some-clause-scalar
-returns-in-Some-clause-scalar g c none = absurd (none c.in-Some.text.now c.in-Some.ensures)
+pub returns-in-Before-clause-step : goal.returns-in-Before-clause-step
+returns-in-Before-clause-step g c =
+    let e : c.insert.new.self.segment.now ≡ c.segment-in-Before-1.given.0 = search rules in
+    rw c.in-Before.is (text-added c.in_ok-object.ensures.located (Before c.in-Before.index) c.in-Strings.is
+    c.in-Some.ensures
+    (of-change (λ o u v. TakesStepOfKind u v (key_of o) Strings (Insert (key_of o) c.in-Before.index
+    (Quoted c.in-Some.text.now)) (done_answer c.insert.result)) c.at-in-Before.ensures.object
+    c.at-in-Before.ensures.segment e c.insert.ensures.step))
 
 pub returns-in-None-clause-step : goal.returns-in-None-clause-step
 returns-in-None-clause-step g c =

@@ -2,16 +2,11 @@
 use Rattle.std.proofs.Common.{◌∙◌, ◌*◌, ◌+◌, ◌<◌, ap, arith, length, subst, sym}
 use Rattle.segment_manager.specs.State.{IsSegment}
 use Rattle.segment_values.proofs.Located.{of-handle}
-use Rattle.segment_values.proofs.elements.InPlace.{has-run, no-reads, range-read, range-refused, range-small}
+use Rattle.segment_values.proofs.elements.InPlace.{has-run, range-read, range-refused, range-small}
 use Rattle.segment_values.proofs.elements.InPlace.{slice-part}
 use Rattle.segment_values.proofs.elements.read_elements.Goals.{then-first-source-via-then-first-source}
 use Rattle.segment_values.proofs.elements.read_elements.Goals.{then-first-source-via-else-first-source+then-series-source}
 use Rattle.segment_values.proofs.elements.read_elements.Goals as goal
-
-pub returns-then-not-is_slice-clause-read : goal.returns-then-not-is_slice-clause-read
-returns-then-not-is_slice-clause-read g c =
-    no-reads c.args.segment.now c.args.object (of-handle c.requires) g.T.Scalar.kind c.args.first
-    (length c.args.series.now) (sym c.if-not-is_slice.ensures)
 
 pub returns-in_err-source-clause-read : goal.returns-in_err-source-clause-read
 returns-in_err-source-clause-read g c = record {

@@ -3,13 +3,12 @@ use Rattle.seg_types.specs.declared.kinds.Kind.TheVariants.{Scalar, String, Stri
 use Rattle.seg_types.specs.Commands.{Quoted, Set, literal_of}
 use Rattle.seg_types.specs.{declared.kinds.ScalarKind.TheVariants.U8}
 use Rattle.seg_types.specs.{declared.values.ScalarValue.TheVariants.U8 as Byte, Keys.key_seen}
-use Rattle.seg_types.specs.Values.{kind_of_scalar}
 use Rattle.segment_manager.specs.{Calls.elements_of, objects.BoundObjects.key_of}
 use Rattle.segment_manager.specs.State.{TakesStepOfKind, done_answer}
 use Rattle.segment_manager.proofs.CommandLaws.{set-map, set-no_text, set-unchangeable}
 use Rattle.segment_manager.proofs.CommandLaws.{to-change}
 use Rattle.segment_manager.proofs.Laws.{located-steps, of-change}
-use Rattle.segment_values.proofs.{Exits.exit-is, elements.Bytes.element-elsewhere, elements.Bytes.element-told}
+use Rattle.segment_values.proofs.{Exits.exit-is}
 use Rattle.segment_values.proofs.{elements.Setting.set-done, elements.Setting.set-refused}
 use Rattle.segment_values.proofs.elements.set.Goals as goal
 
@@ -27,13 +26,6 @@ returns-in_ok-scalar-in-Scalar-clause-step g c =
     c.in_ok-scalar-in-Scalar.ensures (c.in-Scalar.is ∙ ap Scalar (sym c.in_ok-scalar-in-Scalar.ensures.0))
     c.set_array_element.ensures.step
 
-pub returns-in_ok-scalar-in-Scalar-clause-element : goal.returns-in_ok-scalar-in-Scalar-clause-element
-returns-in_ok-scalar-in-Scalar-clause-element g c =
-    element-told c.args.segment.now c.set_array_element.new.segment (key_seen c.args.key.now) c.in_ok-object.object
-    c.in_ok-object.ensures.located (kind_of_scalar c.in_ok-scalar-in-Scalar.scalar)
-    (c.in-Scalar.is ∙ ap Scalar (sym c.in_ok-scalar-in-Scalar.ensures.0)) c.args.index c.set_array_element.result
-    c.set_array_element.ensures.element
-
 pub returns-in_err-scalar-in-Vector-clause-step : goal.returns-in_err-scalar-in-Vector-clause-step
 returns-in_err-scalar-in-Vector-clause-step g c = rw (exit-is c.from_residual-in_err-scalar-in-Vector.ensures.1)
     (set-refused c.in_ok-object.ensures (ap elements_of c.in-Vector.is) _ _ c.in_err-scalar-in-Vector.ensures)
@@ -44,12 +36,6 @@ returns-in_ok-scalar-in-Vector-clause-step g c =
     c.in_ok-scalar-in-Vector.ensures (c.in-Vector.is ∙ ap Vector (sym c.in_ok-scalar-in-Vector.ensures.0))
     c.set_vector_element.ensures.step
 
-pub returns-in_ok-scalar-in-Vector-clause-element : goal.returns-in_ok-scalar-in-Vector-clause-element
-returns-in_ok-scalar-in-Vector-clause-element g c =
-    element-elsewhere c.args.segment.now c.set_vector_element.new.segment (key_seen c.args.key.now)
-    c.in_ok-object.object c.in_ok-object.ensures.located c.in-Vector.is (λ j e. absurd (cc)) c.args.index
-    c.set_vector_element.result
-
 pub returns-in-Some-clause-step : goal.returns-in-Some-clause-step
 returns-in-Some-clause-step g c =
     let e : c.set-in-Some.new.self.segment.now ≡ c.segment-in-Some-1.given.0 = search rules in
@@ -59,11 +45,6 @@ returns-in-Some-clause-step g c =
     (of-change (λ o u v. TakesStepOfKind u v (key_of o) Strings (Set (key_of o) c.args.index
     (Quoted c.in-Some.text.now)) (done_answer c.set-in-Some.result)) c.at-in-Some.ensures.object
     c.at-in-Some.ensures.segment e c.set-in-Some.ensures.step))
-
-pub returns-in-Some-clause-element : goal.returns-in-Some-clause-element
-returns-in-Some-clause-element g c =
-    element-elsewhere c.args.segment.now c.segment-in-Some-1.given.0 (key_seen c.args.key.now) c.in_ok-object.object
-    c.in_ok-object.ensures.located c.in-Strings.is (λ j e. absurd (cc)) c.args.index c.set-in-Some.result
 
 pub returns-in-None-clause-step : goal.returns-in-None-clause-step
 returns-in-None-clause-step g c =

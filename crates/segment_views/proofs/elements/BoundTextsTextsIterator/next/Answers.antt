@@ -2,8 +2,8 @@
 use Rattle.std.proofs.Common.{refl, sym, ◌∙◌, List, ℕ}
 use Rattle.std.specs.{Borrow.Bor}
 use Rattle.segment_manager.specs.{objects.BoundObjects.key_of}
-use Rattle.segment_views.proofs.string_lists.TextReads.{text-item}
-use Rattle.segment_views.proofs.string_lists.BoundTextsTextsIterator.next.Goals as goal
+use Rattle.segment_views.proofs.elements.ElementReads.{text-item}
+use Rattle.segment_views.proofs.elements.BoundTextsTextsIterator.next.Goals as goal
 
 abbrev bytes : Bor (List ℕ) → List ℕ
 bytes text = text.now

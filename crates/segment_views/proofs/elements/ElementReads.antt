@@ -1,8 +1,8 @@
--- What a reading of one text of a vector of strings, or of their number, says of the list of all.
-use Rattle.std.proofs.Common.{◌≡◌, refl, sym, ◌∙◌, ap, ℕ, Bool, true, false, Option, None, Some, Result, Ok, Err, List}
-use Rattle.std.proofs.Common.{[], length, if◌then◌else◌}
+-- What a reading of one element of an array or a vector, or of the number of its texts, says of the list of all.
+use Rattle.std.proofs.Common.{◌≡◌, refl, sym, ◌∙◌, ap, ℕ, ℤ, Bool, true, false, Option, None, Some, Result, Ok, Err}
+use Rattle.std.proofs.Common.{List, [], length, if◌then◌else◌}
 use Rattle.std.proofs.lemmas.{Bool.eqb-true, List.length-map, Option.same_Some}
-use Rattle.std.specs.{Prelude.option_map, Prelude.slice_get, Result.result_ok}
+use Rattle.std.specs.{Option.ok_or, Prelude.option_map, Prelude.slice_get, Result.result_ok}
 use Rattle.seg_types.specs.{Commands.Get, Kinds.code_of, Kinds.kind_of_code, Kinds.same_kind, Names.Key}
 use Rattle.seg_types.specs.declared.kinds.Kind.TheVariants.{Strings as StringsKind}
 use Rattle.seg_types.specs.declared.refusals.Refusal.{Refusal}
@@ -10,9 +10,31 @@ use Rattle.seg_types.specs.declared.refusals.Refusal.TheVariants.{NotFound, Wron
 use Rattle.segment_manager.proofs.Laws.{code-read, text-read}
 use Rattle.segment_manager.specs.{Answers.TextElement, State.AnswersQueryOfKind, State.AnswersWith}
 use Rattle.segment_manager.specs.{State.SegmentState, State.answer_of}
-use Rattle.segment_manager.specs.Directory.{Object, Texts, Value, kind_of, object_at}
+use Rattle.segment_manager.specs.Directory.{Directory, Object, Texts, Value, kind_of, object_at}
 use Rattle.segment_manager.specs.containers.Contents.{sizes_of, sizes_of_kind}
-use Rattle.segment_manager.specs.objects.ElementLists.{first_size, length_at_kind, number_or_none, texts_at, texts_in}
+use Rattle.segment_manager.specs.objects.ElementLists.{element_of, first_size, length_at_kind, number_or_none, texts_at}
+use Rattle.segment_manager.specs.objects.ElementLists.{texts_in, whole_of}
+
+-- ---- one scalar
+
+whole-ok : {A : Type 0} (whole : A → ℤ) (q : Result A Refusal)
+    → option_map whole (result_ok q) ≡ result_ok (whole_of whole q)
+whole-ok whole (Ok a) = refl
+whole-ok whole (Err why) = refl
+
+read-ok : (q : Option ℤ) (why : Refusal) → result_ok (ok_or q why) ≡ q
+read-ok None why = refl
+read-ok (Some z) why = refl
+
+-- the element that is read is the list's
+pub reads-item : {s : SegmentState} (list : Directory → List ℤ) (at : ℕ) {A : Type 0} (whole : A
+    → ℤ) (q : Result A Refusal) {o : Option A} → o ≡ result_ok q
+    → AnswersWith s (λ d. element_of (list d) at) (whole_of whole q)
+    → AnswersWith s (λ d. slice_get (list d) at) (option_map whole o)
+reads-item list at whole q e a = record {
+  answers = λ d h. ap (option_map whole) e ∙ whole-ok whole q ∙ ap result_ok (a.answers d h)
+      ∙ read-ok (slice_get (list d) at) _;
+}
 
 -- ---- one text
 

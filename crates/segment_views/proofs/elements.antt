@@ -1,0 +1,2 @@
+-- Elements of arrays and vectors: what a reading of one says of all.
+pub mod ElementReads

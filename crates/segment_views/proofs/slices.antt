@@ -1,2 +1,0 @@
--- Steps of an iterator over an array or a vector (`SliceSteps`).
-pub mod SliceSteps

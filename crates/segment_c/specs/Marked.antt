@@ -1,7 +1,7 @@
 -- What is noted of the segment of a handle: how often it was changed, whether C lent its memory, and whether C may
 -- write elements where they stand.
 use Rattle.std.specs.Prelude.{◌≡◌, ◌≤◌, ◌⊎◌, ℕ, ◌+◌, ◌%◌, Bool, false, true}
-use Rattle.segment_c.specs.declared.segment_slot.Marks.{Marks}
+use Rattle.segment_c.specs.declared.slot.Marks.{Marks}
 
 -- the counter has risen, or begins anew, and no element that C was told of is where it was told
 abbrev pub raised : Marks → Marks

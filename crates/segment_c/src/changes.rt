@@ -6,11 +6,10 @@ ghost use Rattle.segment_manager.specs.{Answers.Done, State.done_answer};
 
 use crate::calls::{enter, passed};
 use crate::codes::done;
-use crate::keys::ObjectKey;
-use crate::segment_slot::SegmentSlot;
+use crate::keys::CKey;
+use crate::slot::Slot;
 use seg_types::{Key, Refusal};
 use segment_manager::Segment;
-use std::alloc::Global;
 
 /// What is changed of an object.
 #[derive(Clone, Copy)]
@@ -28,18 +27,13 @@ pub enum ObjectChange<'a> {
 }
 
 /// Changes the object of a key.
-pub fn make_change(
-    alloc: Global,
-    h: &mut SegmentSlot,
-    key: &ObjectKey<'_>,
-    what: ObjectChange<'_>,
-) -> u32
+pub fn make_change(h: &mut Slot, key: &CKey, what: ObjectChange<'_>) -> u32
     ensures call { PerformsCall (key_wrong key.now) result h.old.segment.value h.new.segment.value (λ s t.
         ChangesObject what.entry (key_of key.now) s t (answer_for result Done)) }
     ensures unchanged_on_error { LeavesHandle what.entry result h.old.segment.value h.new.segment.value }
     ensures marks { RaisesMoves result h.old.marks h.new.marks }
 {
-    let (which, mut segment) = passed!(enter(alloc, h, key));
+    let (which, mut segment) = passed!(enter(h, key));
     done(apply(&mut segment, &which, what), h, segment)
 }
 

@@ -9,7 +9,7 @@ ghost use Rattle.segment_manager.specs.State.{done_answer, handle_answer, scalar
 ghost use Rattle.segment_manager.specs.objects.Found.{found_answer, found_object_answer};
 ghost use Rattle.segment_manager.specs.containers.Maps.{any_value_answer};
 
-use crate::segment_slot::{SegmentSlot, put, put_changed};
+use crate::slot::{Slot, put, put_changed};
 use crate::values::CScalar;
 use image_check::MemoryFault;
 use raw_region::RawRegion;
@@ -113,6 +113,8 @@ macro_rules! code_for {
     };
 }
 
+pub(crate) use code_for;
+
 /// Returns the code of a refusal, which is its number.
 pub fn code_of(why: Refusal) -> u32
     ensures outcome { (a : Answer) → answer_for result a ≡ Refused why }
@@ -133,7 +135,7 @@ pub fn code_of(why: Refusal) -> u32
 /// Returns the code of a command that is done, or refused. This and those below put the segment back into the handle,
 /// and those whose command may change it count that.
 #[inline(always)]
-pub fn done(done: Result<(), Refusal>, h: &mut SegmentSlot, segment: Box<Segment>) -> u32
+pub fn done(done: Result<(), Refusal>, h: &mut Slot, segment: Box<Segment>) -> u32
     ensures outcome { answer_for result Done ≡ done_answer done }
     ensures answer { IsTrue (is_answer result) }
     ensures effect { h.new.segment.value ≡ Held segment.value }
@@ -147,7 +149,7 @@ pub fn done(done: Result<(), Refusal>, h: &mut SegmentSlot, segment: Box<Segment
 pub fn made(
     made: Result<u64, Refusal>,
     handle: &mut u64,
-    h: &mut SegmentSlot,
+    h: &mut Slot,
     segment: Box<Segment>,
 ) -> u32
     ensures outcome { answer_for result (Made handle.new) ≡ handle_answer made }
@@ -164,7 +166,7 @@ pub fn made(
 pub fn truth(
     truth: Result<bool, Refusal>,
     holds: &mut bool,
-    h: &mut SegmentSlot,
+    h: &mut Slot,
     segment: Box<Segment>,
 ) -> u32
     ensures outcome { answer_for result (Boolean holds.new) ≡ truth_answer truth }
@@ -192,7 +194,7 @@ pub fn found(
     found: Result<(u64, u32), Refusal>,
     handle: &mut u64,
     count: &mut u32,
-    h: &mut SegmentSlot,
+    h: &mut Slot,
     segment: Box<Segment>,
 ) -> u32
     ensures outcome { answer_for result (Found handle.new count.new) ≡ found_object_answer found }
@@ -211,7 +213,7 @@ pub fn found_or_absent(
     found: Result<Option<(u64, u32)>, Refusal>,
     handle: &mut u64,
     count: &mut u32,
-    h: &mut SegmentSlot,
+    h: &mut Slot,
     segment: Box<Segment>,
 ) -> u32
     ensures outcome { answer_for result (Found handle.new count.new) ≡ found_answer found }
@@ -228,7 +230,7 @@ pub fn found_or_absent(
 pub fn value_found(
     found: Result<Option<ScalarValue>, Refusal>,
     value: &mut CScalar,
-    h: &mut SegmentSlot,
+    h: &mut Slot,
     segment: Box<Segment>,
 ) -> u32
     ensures outcome { answer_for result (element_in value.new) ≡ any_value_answer found }

@@ -1,5 +1,5 @@
 //! Segments in memory that C lends, as in a file that it mapped: they stand there, and no byte of them is copied.
-ghost use Rattle.std.specs.Prelude.{◌≡◌, ◌≢◌, ◌≤◌, List, [], MatchResult, false, if◌then◌else◌, length, true};
+ghost use Rattle.std.specs.Prelude.{◌≡◌, ◌≤◌, MatchResult, false, if◌then◌else◌, length, true};
 ghost use Rattle.std.specs.declared.option.Option.TheVariants.{None as NoSegment, Some as Held};
 ghost use Rattle.raw_region.specs.{Memory.part, Memory.whole, Regions.IsCapacity};
 ghost use Rattle.segment_c.specs.{Lending.IsOpenedHere, Lending.memory_wrong, Lending.OpensHere, Marked.PlacesSegment};
@@ -10,7 +10,7 @@ use crate::calls::passed;
 use crate::codes::{BAD_MODE, BAD_SIZE, DONE, boxed_or_region};
 use crate::images::{mode_for, refused_code};
 use crate::resizing::is_capacity;
-use crate::segment_slot::{SegmentSlot, put_new, take};
+use crate::slot::{Slot, put_new, take};
 use image_check::open_here;
 use raw_region::{LentMemory, RawRegion, Steps};
 use segment_manager::{Mode, Segment};
@@ -20,24 +20,17 @@ use std::alloc::Global;
 /// first call that changes the segment. The memory belongs to the handle until `zx_detach`. What the handle had is
 /// freed. The handle and the memory are as they were unless the code is 0.
 #[unsafe(no_mangle)]
-pub extern "C" fn zx_attach(
-    alloc: Global,
-    h: &mut SegmentSlot,
-    memory: &mut LentMemory,
-    len: u64,
-    mode: u32,
-) -> u32
+pub extern "C" fn zx_attach(h: &mut Slot, memory: &mut LentMemory, len: u64, mode: u32) -> u32
     ensures opening { OpensHere memory.old.bytes.items memory.new.bytes.items len mode result h.old h.new }
 {
-    zx_attach_explained(alloc, h, memory, len, mode, &mut 0)
+    zx_attach_explained(h, memory, len, mode, &mut 0)
 }
 
 /// Opens as `zx_attach` does. For a code of a class, `place` is set to the byte that shows it. The memory is checked
 /// once, so the code and the place are of the same bytes, even if another process changes a mapped file.
 #[unsafe(no_mangle)]
 pub extern "C" fn zx_attach_explained(
-    alloc: Global,
-    h: &mut SegmentSlot,
+    h: &mut Slot,
     memory: &mut LentMemory,
     len: u64,
     mode: u32,
@@ -52,7 +45,9 @@ pub extern "C" fn zx_attach_explained(
     let Some(mode) = mode_for(mode) else {
         return BAD_MODE;
     };
-    match open_over(alloc, region_over(alloc, memory), len, mode, place) {
+    let alloc = h.alloc;
+    let region = RawRegion::over(alloc, std::mem::replace(memory, LentMemory::none()));
+    match open_over(alloc, region, len, mode, place) {
         Ok(segment) => put_new(h, segment, true),
         Err((code, region)) => {
             *memory = region.leak();
@@ -68,15 +63,6 @@ fn holds(memory: &LentMemory, len: u64) -> bool
     ensures fits { result ≡ true → len ≤ length memory.now.bytes.items }
 {
     is_capacity(memory.len) && len <= memory.len
-}
-
-/// Returns the region that memory is, of which nothing is left.
-fn region_over(alloc: Global, memory: &mut LentMemory) -> RawRegion
-    requires { IsCapacity (length memory.old.bytes.items) }
-    ensures region { result ≡ memory.old.bytes.items }
-    ensures remainder { memory.new.bytes.items ≡ [] }
-{
-    RawRegion::over(alloc, std::mem::replace(memory, LentMemory::none()))
 }
 
 /// Returns the segment whose image stands at the front of the region, in a box.
@@ -107,14 +93,14 @@ fn open_over(
 /// Closes the segment, and gives the memory of its region back with its present bytes. C lent that memory, or is to
 /// free it if the library took it.
 #[unsafe(no_mangle)]
-pub extern "C" fn zx_detach(alloc: Global, h: &mut SegmentSlot, memory: &mut LentMemory) -> u32
+pub extern "C" fn zx_detach(h: &mut Slot, memory: &mut LentMemory) -> u32
     ensures closed { RefusesClosed 0 result h.old.segment.value h.new.segment.value }
     ensures input { (s : SegmentState) → h.old.segment.value ≡ Held s
         → (result ≡ 0) × (h.new.segment.value ≡ NoSegment) × (memory.new.bytes.items ≡ whole s.cut) }
     ensures remainder { 1 ≤ result → memory.new ≡ memory.old }
     ensures marks { PlacesSegment result h.old.marks h.new.marks false }
 {
-    let segment = passed!(take(alloc, h));
+    let segment = passed!(take(h));
     h.marks.place(false);
     *memory = Box::into_inner(segment).into_region().leak();
     DONE

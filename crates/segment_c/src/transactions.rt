@@ -1,6 +1,6 @@
 //! Several calls as one: the segment is copied before them, and may be put back as it was.
 ghost use Rattle.std.specs.declared.option.Option.TheVariants.{None as NoSegment, Some as Held};
-ghost use Rattle.std.specs.Prelude.{◌≡◌, ◌≤◌, MatchResult, false, length, nat_le};
+ghost use Rattle.std.specs.Prelude.{◌≡◌, ◌≤◌, MatchResult, false, length};
 ghost use Rattle.grow_shrink.specs.Resized.{room_of};
 ghost use Rattle.raw_region.specs.Memory.{SameSurroundings, cut_at, whole};
 ghost use Rattle.segment_c.specs.Transactions.{IsBeginCode, CopiesSegment, RollsBack, rollback_code};
@@ -9,7 +9,7 @@ ghost use Rattle.segment_manager.specs.{State.IsSegment, State.SegmentState, Ste
 
 use crate::calls::passed;
 use crate::codes::{DONE, READ_ONLY, SHORT_REGION, boxed_or_not, no_memory};
-use crate::segment_slot::{SegmentSlot, put, put_changed, put_new, take};
+use crate::slot::{Slot, put, put_changed, put_new, take};
 use grow_shrink::{copy_into, region_for, size_of};
 use image_check::MemoryFault;
 use raw_region::Window;
@@ -20,7 +20,7 @@ use std::alloc::Global;
 /// Copies the segment to another handle, from which `zx_rollback` puts it back. What that had is freed. It is as it was
 /// unless the code is 0.
 #[unsafe(no_mangle)]
-pub extern "C" fn zx_begin(alloc: Global, h: &mut SegmentSlot, before: &mut SegmentSlot) -> u32
+pub extern "C" fn zx_begin(h: &mut Slot, before: &mut Slot) -> u32
     ensures closed { RefusesClosed 0 result h.old.segment.value h.new.segment.value }
     ensures code { (s : SegmentState) → h.old.segment.value ≡ Held s → IsBeginCode s.mode result }
     ensures copy { (s : SegmentState) → h.old.segment.value ≡ Held s → result ≡ 0
@@ -30,8 +30,8 @@ pub extern "C" fn zx_begin(alloc: Global, h: &mut SegmentSlot, before: &mut Segm
     ensures marks { h.new.marks ≡ h.old.marks }
     ensures placement { PlacesSegment result before.old.marks before.new.marks false }
 {
-    let segment = passed!(take(alloc, h));
-    let code = match copy_of(alloc, &segment) {
+    let segment = passed!(take(h));
+    let code = match copy_of(h.alloc, &segment) {
         Ok(copy) => put_new(before, copy, false),
         Err(code) => code,
     };
@@ -60,7 +60,7 @@ fn copy_of(alloc: Global, segment: &Segment) -> Result<Box<Segment>, u32>
 /// Makes the segment again what `zx_begin` copied, where it lies now, and closes the copy. Both are as they were unless
 /// the code is 0.
 #[unsafe(no_mangle)]
-pub extern "C" fn zx_rollback(alloc: Global, h: &mut SegmentSlot, before: &mut SegmentSlot) -> u32
+pub extern "C" fn zx_rollback(h: &mut Slot, before: &mut Slot) -> u32
     ensures closed { RefusesClosed 0 result h.old.segment.value h.new.segment.value }
     ensures absent { before.old.segment.value ≡ NoSegment → result ≡ 16 }
     ensures code { (s t : SegmentState) → h.old.segment.value ≡ Held s → before.old.segment.value ≡ Held t
@@ -73,8 +73,8 @@ pub extern "C" fn zx_rollback(alloc: Global, h: &mut SegmentSlot, before: &mut S
     ensures marks { RaisesMoves result h.old.marks h.new.marks }
     ensures placement { PlacesSegment result before.old.marks before.new.marks false }
 {
-    let segment = passed!(take(alloc, h));
-    let mut copy = match take(alloc, before) {
+    let segment = passed!(take(h));
+    let mut copy = match take(before) {
         Ok(copy) => copy,
         Err(code) => return put(code, h, segment),
     };
@@ -97,7 +97,9 @@ fn code_to_put_back(segment: &Segment, copy: &Segment) -> u32
     if is_read_only(segment) {
         return READ_ONLY;
     }
-    if has_room(segment, size_of(copy)) {
+    let (size, len) = (size_of(segment), size_of(copy));
+    let (beyond, left) = (len.saturating_sub(size), segment.region_left());
+    if beyond <= left {
         return DONE;
     }
     SHORT_REGION
@@ -108,14 +110,6 @@ fn is_read_only(segment: &Segment) -> bool
     ensures { result ≡ is_read_only segment.now.mode }
 {
     segment.mode() == Mode::ReadOnly
-}
-
-/// Tells whether a segment's region has room for `len` bytes.
-fn has_room(segment: &Segment, len: u64) -> bool
-    ensures { result ≡ nat_le len (room_of segment.now.cut) }
-{
-    let size = size_of(segment);
-    len <= size || len - size <= segment.region_left()
 }
 
 /// Returns the segment whose image the bytes are, at the front of the region of another, and open as that is.

@@ -14,20 +14,19 @@ ghost use Rattle.segment_manager.specs.{objects.NewObjects.IsOfKind, State.handl
 
 use crate::calls::{enter_entry, enter_new, enter_slice, passed};
 use crate::codes::{BAD_COUNT, done, found, made};
-use crate::keys::ObjectKey;
+use crate::keys::CKey;
 use crate::objects::MOST;
-use crate::segment_slot::SegmentSlot;
 use crate::slices::{CScalars, on_slice};
+use crate::slot::Slot;
 use seg_types::{IndexKey, Key, Kind, NewKey, Refusal, ScalarKind};
 use segment_manager::Segment;
-use std::alloc::Global;
 
 /// Makes a vector of the values of a row, of which the slice of a kind is meant.
 fn construct_slice(
     segment: &mut Segment,
     key: &NewKey,
     kind: ScalarKind,
-    series: &CScalars<'_>,
+    series: &CScalars,
 ) -> Result<u64, Refusal>
     requires { IsOfKind (new_key_seen key.now) (VectorOf kind) }
     ensures step { TakesStep segment.old segment.new
@@ -42,7 +41,7 @@ fn find_or_construct_slice(
     segment: &mut Segment,
     key: &IndexKey,
     kind: ScalarKind,
-    series: &CScalars<'_>,
+    series: &CScalars,
 ) -> Result<(u64, u32), Refusal>
     requires { IsOfKind (index_key_seen key.now) (VectorOf kind) }
     ensures step { TakesStep segment.old segment.new
@@ -59,7 +58,7 @@ fn assign_slice(
     segment: &mut Segment,
     key: &Key,
     kind: ScalarKind,
-    series: &CScalars<'_>,
+    series: &CScalars,
 ) -> Result<(), Refusal>
     ensures step { TakesStepOfKind segment.old segment.new (key_seen key.now) (VectorOf kind)
         (Assign (key_seen key.now) (map (literal_of kind) (numbers_of series.now kind))) (done_answer result) }
@@ -73,7 +72,7 @@ fn extend_slice(
     segment: &mut Segment,
     key: &Key,
     kind: ScalarKind,
-    series: &CScalars<'_>,
+    series: &CScalars,
 ) -> Result<(), Refusal>
     ensures step { ExtendsVector segment.old segment.new (key_seen key.now) kind (numbers_of series.now kind)
         (done_answer result) }
@@ -85,10 +84,9 @@ fn extend_slice(
 /// Makes a vector of the values.
 #[unsafe(no_mangle)]
 pub extern "C" fn zx_construct_vector(
-    alloc: Global,
-    h: &mut SegmentSlot,
-    key: &ObjectKey<'_>,
-    values: &CScalars<'_>,
+    h: &mut Slot,
+    key: &CKey,
+    values: &CScalars,
     handle: &mut u64,
 ) -> u32
     ensures { TellsMade
@@ -97,7 +95,7 @@ pub extern "C" fn zx_construct_vector(
         result h.old h.new handle.old handle.new }
 {
     let kind = passed!(values.scalar_kind());
-    let (which, mut segment) = passed!(enter_new(alloc, h, key, Kind::Vector(kind)));
+    let (which, mut segment) = passed!(enter_new(h, key, Kind::Vector(kind)));
     let answer = construct_slice(&mut segment, &which, kind, values);
     made(answer, handle, h, segment)
 }
@@ -105,10 +103,9 @@ pub extern "C" fn zx_construct_vector(
 /// Returns the vector of a key, which stays as it is, or a new one of the values if no object has it.
 #[unsafe(no_mangle)]
 pub extern "C" fn zx_find_or_construct_vector(
-    alloc: Global,
-    h: &mut SegmentSlot,
-    key: &ObjectKey<'_>,
-    values: &CScalars<'_>,
+    h: &mut Slot,
+    key: &CKey,
+    values: &CScalars,
     handle: &mut u64,
     count_found: &mut u32,
 ) -> u32
@@ -118,41 +115,31 @@ pub extern "C" fn zx_find_or_construct_vector(
         result h.old h.new handle.old handle.new count_found.old count_found.new }
 {
     let kind = passed!(values.scalar_kind());
-    let (which, mut segment) = passed!(enter_entry(alloc, h, key, Kind::Vector(kind)));
+    let (which, mut segment) = passed!(enter_entry(h, key, Kind::Vector(kind)));
     let answer = find_or_construct_slice(&mut segment, &which, kind, values);
     found(answer, handle, count_found, h, segment)
 }
 
 /// Makes the values those of the vector of a key, a vector of their kind.
 #[unsafe(no_mangle)]
-pub extern "C" fn zx_assign(
-    alloc: Global,
-    h: &mut SegmentSlot,
-    key: &ObjectKey<'_>,
-    values: &CScalars<'_>,
-) -> u32
+pub extern "C" fn zx_assign(h: &mut Slot, key: &CKey, values: &CScalars) -> u32
     ensures call { ChangesHandle (or_else (key_wrong key.now) (slice_wrong values.now)) result h.old h.new
         (λ s t. TakesStepOfKind s t (key_of key.now) (VectorOf (scalar_kind_in values.now.kind))
         (Assign (key_of key.now) (map (literal_of (scalar_kind_in values.now.kind)) (slice_of values.now)))
         (answer_for result Done)) }
 {
-    let (which, kind, mut segment) = passed!(enter_slice(alloc, h, key, values));
+    let (which, kind, mut segment) = passed!(enter_slice(h, key, values));
     done(assign_slice(&mut segment, &which, kind, values), h, segment)
 }
 
 /// Puts the values after the last element of the vector of a key, a vector of their kind: all of them or none.
 #[unsafe(no_mangle)]
-pub extern "C" fn zx_extend(
-    alloc: Global,
-    h: &mut SegmentSlot,
-    key: &ObjectKey<'_>,
-    values: &CScalars<'_>,
-) -> u32
+pub extern "C" fn zx_extend(h: &mut Slot, key: &CKey, values: &CScalars) -> u32
     ensures call { ChangesHandle (or_else (key_wrong key.now) (slice_wrong values.now)) result h.old h.new
         (λ s t. ExtendsVector s t (key_of key.now) (scalar_kind_in values.now.kind) (slice_of values.now)
         (answer_for result Done)) }
 {
-    let (which, kind, mut segment) = passed!(enter_slice(alloc, h, key, values));
+    let (which, kind, mut segment) = passed!(enter_slice(h, key, values));
     done(extend_slice(&mut segment, &which, kind, values), h, segment)
 }
 
@@ -161,7 +148,7 @@ fn construct_array_slice(
     segment: &mut Segment,
     key: &NewKey,
     kind: ScalarKind,
-    series: &CScalars<'_>,
+    series: &CScalars,
 ) -> Result<u64, Refusal>
     requires kind { IsOfKind (new_key_seen key.now) (ScalarOf kind) }
     requires non_empty { 1 ≤ many_of series.now kind }
@@ -175,7 +162,7 @@ fn construct_array_slice(
 }
 
 /// Returns the kind of a row of which an array is made.
-fn array_kind(values: &CScalars<'_>) -> Result<ScalarKind, u32>
+fn array_kind(values: &CScalars) -> Result<ScalarKind, u32>
     ensures { MatchResult result (λ kind. (slice_wrong values.now ≡ 0) × (kind ≡ scalar_kind_in values.now.kind)
         × (count_wrong (slice_count values.now) ≡ 0) × (1 ≤ many_of values.now kind)
         × (many_of values.now kind ≤ 1048576))
@@ -193,10 +180,9 @@ fn array_kind(values: &CScalars<'_>) -> Result<ScalarKind, u32>
 /// Makes an array of the values.
 #[unsafe(no_mangle)]
 pub extern "C" fn zx_construct_array(
-    alloc: Global,
-    h: &mut SegmentSlot,
-    key: &ObjectKey<'_>,
-    values: &CScalars<'_>,
+    h: &mut Slot,
+    key: &CKey,
+    values: &CScalars,
     handle: &mut u64,
 ) -> u32
     ensures call { MakesInHandle (or_else (slice_wrong values.now)
@@ -208,7 +194,7 @@ pub extern "C" fn zx_construct_array(
     ensures outputs_on_error { 1 ≤ result → handle.new ≡ handle.old }
 {
     let kind = passed!(array_kind(values));
-    let (which, mut segment) = passed!(enter_new(alloc, h, key, Kind::Scalar(kind)));
+    let (which, mut segment) = passed!(enter_new(h, key, Kind::Scalar(kind)));
     let answer = construct_array_slice(&mut segment, &which, kind, values);
     made(answer, handle, h, segment)
 }

@@ -1,5 +1,5 @@
 use Rattle.std.proofs.Common.{◌∙◌, sym}
-use Rattle.segment_c.proofs.segment_slot.GoingOn.{asks}
+use Rattle.segment_c.proofs.slot.GoingOn.{asks}
 use Rattle.segment_c.proofs.elements.zx_get.Goals as goal
 
 pub returns : goal.returns

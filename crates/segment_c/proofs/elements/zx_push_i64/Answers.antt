@@ -3,7 +3,7 @@ use Rattle.std.proofs.{Common.ap, Common.Some, Common.subst, Common.sym, Common.
 use Rattle.seg_types.specs.Commands.{Command, Integer, Push}
 use Rattle.segment_manager.specs.{Answers.Done, State.TakesStep}
 use Rattle.segment_c.specs.{Codes.answer_for, Passed.or_else}
-use Rattle.segment_c.proofs.segment_slot.GoingOn.{changes, number-is, number-right}
+use Rattle.segment_c.proofs.slot.GoingOn.{changes, number-is, number-right}
 
 pub returns : goal.returns
 returns c =

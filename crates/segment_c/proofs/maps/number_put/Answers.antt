@@ -3,7 +3,7 @@ use Rattle.std.proofs.{Common.ap, Common.subst, Common.sym, Common.w64, Common.â
 use Rattle.seg_types.specs.Commands.{Command, Integer, Put}
 use Rattle.segment_manager.specs.{Answers.Boolean, State.TakesStep}
 use Rattle.segment_c.specs.{Codes.answer_for, Passed.or_else}
-use Rattle.segment_c.proofs.segment_slot.GoingOn.{changes, number-is, number-right}
+use Rattle.segment_c.proofs.slot.GoingOn.{changes, number-is, number-right}
 
 pub returns-clause-call : goal.returns-clause-call
 returns-clause-call c =

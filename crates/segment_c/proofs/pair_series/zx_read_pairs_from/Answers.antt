@@ -5,7 +5,7 @@ use Rattle.seg_types.specs.{Keys.key_seen, Values.value_of_scalar, Written.liter
 use Rattle.segment_manager.specs.{containers.Walks.pairs_at_kinds, State.DenotesCurrent}
 use Rattle.segment_c.specs.{Passed.literal_in, Reads.IsCoded, Series.FillsSeries, Series.pairs_from_at}
 use Rattle.segment_c.specs.Series.{pairs_in, those_past}
-use Rattle.segment_c.proofs.segment_slot.GoingOn.{reads}
+use Rattle.segment_c.proofs.slot.GoingOn.{reads}
 use Rattle.segment_c.proofs.views.Neighbours.{same-pairs, told-map}
 use Rattle.segment_c.proofs.pair_series.zx_read_pairs_from.Goals as goal
 

@@ -1,7 +1,7 @@
 -- `into_loose` tests the pointer.
-use Rattle.segment_c.specs.contracts.segment_slot.HeldSegment as handle
-use Rattle.segment_c.specs.contracts.segment_slot.HeldSegment.into_loose as f
-use Rattle.segment_c.proofs.segment_slot.HeldSegment.into_loose.Code as code
+use Rattle.segment_c.specs.contracts.slot.HeldSegment as handle
+use Rattle.segment_c.specs.contracts.slot.HeldSegment.into_loose as f
+use Rattle.segment_c.proofs.slot.HeldSegment.into_loose.Code as code
 use Rattle.std.proofs.Common.{◌≡◌, List, [], ◌∷◌, ◌++◌, refl, sym, ap, ◌∙◌, subst, lit<}
 use mir.Val.{Val, vptr, vcons, vnil}
 use base.Logic.{SProp, ent, emp, id⊢}
@@ -26,9 +26,9 @@ use Rattle.std.proofs.{option.Made.none_of, ResultValues.and_tt, raw_atomic.Walk
 use Rattle.std.specs.declared.option.Option.TheVariants.{None, Some}
 use Rattle.std.specs.contracts.impls.GlobalAllocator.TheImpl.{ghosts}
 use Rattle.boxed.proofs.Values.{both, LooseRow, fits_pair, loose_made}
-use Rattle.segment_c.proofs.segment_slot.MachineValues.{Z, LZ, null_good, either, handle_out}
+use Rattle.segment_c.proofs.slot.MachineValues.{Z, LZ, null_good, either, handle_out}
 use Rattle.segment_manager.specs.contracts.Segment.{the_row as R}
-use Rattle.segment_c.proofs.segment_slot.HeldSegment.into_loose.Statement.{statement}
+use Rattle.segment_c.proofs.slot.HeldSegment.into_loose.Statement.{statement}
 
 abbrev hs : Stays f.ended.signature.params f.ended.kept
 hs = (stay_dropped _ f.ended.kept.0, tt)

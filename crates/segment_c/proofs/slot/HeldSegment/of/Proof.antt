@@ -1,6 +1,6 @@
 -- `of` casts the pointer of a box.
-use Rattle.segment_c.specs.contracts.segment_slot.HeldSegment.of as f
-use Rattle.segment_c.proofs.segment_slot.HeldSegment.of.Code as code
+use Rattle.segment_c.specs.contracts.slot.HeldSegment.of as f
+use Rattle.segment_c.proofs.slot.HeldSegment.of.Code as code
 use Rattle.std.proofs.Common.{◌≡◌, List, [], ◌∷◌, ◌++◌, refl, sym, subst}
 use mir.Val.{Val, vptr}
 use base.Logic.{SProp, ent, emp, id⊢}
@@ -20,9 +20,9 @@ use denote.Triple.Walked.{Stays, stay_dropped, walk_of}
 use Rattle.std.proofs.{alloc.Calls.Goes-blank, raw_atomic.Walks.proved_at, raw_atomic.Walks.leaves}
 use Rattle.std.specs.{declared.option.Option.TheVariants.Some, contracts.impls.GlobalAllocator.TheImpl.ghosts}
 use Rattle.boxed.proofs.Values.{both, LooseRow, fits_pair, loose_apart}
-use Rattle.segment_c.proofs.segment_slot.MachineValues.{Z, LZ, handle_in}
+use Rattle.segment_c.proofs.slot.MachineValues.{Z, LZ, handle_in}
 use Rattle.segment_manager.specs.contracts.Segment.{the_row as R}
-use Rattle.segment_c.proofs.segment_slot.HeldSegment.of.Statement.{statement}
+use Rattle.segment_c.proofs.slot.HeldSegment.of.Statement.{statement}
 
 abbrev hs : Stays f.ended.signature.params f.ended.kept
 hs = (stay_dropped _ f.ended.kept.0, tt)

@@ -25,9 +25,11 @@ pub struct Marks {
 
 /// A segment of which C holds the pointer, or nothing if that is null, and its marks.
 #[repr(C)]
-pub struct SegmentSlot {
+pub struct Slot {
     pub segment: HeldSegment,
     pub marks: Marks,
+    /// What allocates for its calls, which has no bytes.
+    pub alloc: Global,
 }
 
 /// A segment of which C holds the pointer, or nothing if that is null. Contracts see which segment.
@@ -116,13 +118,13 @@ impl Marks {
 
 /// Takes the segment out of a handle, which has none then, for the time of a call; or answers that it is closed.
 #[inline(always)]
-pub fn take(alloc: Global, handle: &mut SegmentSlot) -> Result<Box<Segment>, u32>
+pub fn take(handle: &mut Slot) -> Result<Box<Segment>, u32>
     ensures transfer { MatchResult result (λ segment. (handle.old.segment.value ≡ Some segment.value)
         × (handle.new.segment.value ≡ None)) (λ code.
         RefusesCall 0 code handle.old.segment.value handle.new.segment.value) }
     ensures marks { handle.new.marks ≡ handle.old.marks }
 {
-    match std::mem::replace(&mut handle.segment, HeldSegment::closed(alloc)).into_loose() {
+    match std::mem::replace(&mut handle.segment, HeldSegment::closed(handle.alloc)).into_loose() {
         Some(segment) => Ok(segment.into_box()),
         None => Err(CLOSED),
     }
@@ -130,7 +132,7 @@ pub fn take(alloc: Global, handle: &mut SegmentSlot) -> Result<Box<Segment>, u32
 
 /// Puts a segment into a handle at the end of a call, and returns the call's code. What the handle had is freed.
 #[inline(always)]
-pub fn put(code: u32, handle: &mut SegmentSlot, segment: Box<Segment>) -> u32
+pub fn put(code: u32, handle: &mut Slot, segment: Box<Segment>) -> u32
     ensures effect { handle.new.segment.value ≡ Some segment.value }
     ensures code { result ≡ code }
     ensures marks { handle.new.marks ≡ handle.old.marks }
@@ -142,7 +144,7 @@ pub fn put(code: u32, handle: &mut SegmentSlot, segment: Box<Segment>) -> u32
 /// Puts a segment back into the handle out of which a call took it, and returns the call's code. The handle has none to
 /// free, so nothing looks for one.
 #[inline(always)]
-pub fn put_taken_back(code: u32, handle: &mut SegmentSlot, segment: Box<Segment>) -> u32
+pub fn put_taken_back(code: u32, handle: &mut Slot, segment: Box<Segment>) -> u32
     requires { handle.old.segment.value ≡ None }
     ensures effect { handle.new.segment.value ≡ Some segment.value }
     ensures code { result ≡ code }
@@ -157,7 +159,7 @@ pub fn put_taken_back(code: u32, handle: &mut SegmentSlot, segment: Box<Segment>
 
 /// Puts a segment into a handle at the end of a call that may have changed it, and returns the call's code.
 #[inline(always)]
-pub fn put_changed(code: u32, handle: &mut SegmentSlot, segment: Box<Segment>) -> u32
+pub fn put_changed(code: u32, handle: &mut Slot, segment: Box<Segment>) -> u32
     ensures effect { handle.new.segment.value ≡ Some segment.value }
     ensures code { result ≡ code }
     ensures marks { handle.new.marks ≡ raised handle.old.marks }
@@ -168,7 +170,7 @@ pub fn put_changed(code: u32, handle: &mut SegmentSlot, segment: Box<Segment>) -
 
 /// Puts a segment that was made or opened into a handle, and notes whether C lent its memory. What the handle had is
 /// freed.
-pub fn put_new(handle: &mut SegmentSlot, segment: Box<Segment>, is_lent: bool) -> u32
+pub fn put_new(handle: &mut Slot, segment: Box<Segment>, is_lent: bool) -> u32
     ensures effect { handle.new.segment.value ≡ Some segment.value }
     ensures code { result ≡ 0 }
     ensures marks { handle.new.marks ≡ placed handle.old.marks is_lent }

@@ -1,7 +1,7 @@
 -- The machine values of a `HeldSegment`. Assumes `Logic`.
 use Rattle.std.specs.contracts.alloc.Global as heap
 use Rattle.std.proofs.alloc.Global.TheLaws as heap_laws
-use Rattle.segment_c.specs.contracts.segment_slot.HeldSegment as handle
+use Rattle.segment_c.specs.contracts.slot.HeldSegment as handle
 use Rattle.std.proofs.Common.{◌≡◌, ℕ, List, [], ◌∷◌, ◌++◌, refl, subst, lit<}
 use lib.Dec.{T}
 use mathlib.Core.Bool.{true, ◌&&◌}

@@ -5,7 +5,7 @@ use Rattle.seg_types.specs.Commands.{Integer, Literal, literal_of}
 use Rattle.seg_types.specs.{declared.kinds.ScalarKind.ScalarKind, declared.kinds.ScalarKind.TheVariants.I64}
 use Rattle.segment_manager.specs.State.{SegmentState}
 use Rattle.segment_c.specs.{declared.values.CScalar.CScalar, Passed.literal_in, Passed.scalar_in, Passed.value_wrong}
-use Rattle.segment_c.specs.{declared.segment_slot.SegmentSlot.SegmentSlot, Handles.AsksHandle, Handles.ChangesHandle}
+use Rattle.segment_c.specs.{declared.slot.Slot.Slot, Handles.AsksHandle, Handles.ChangesHandle}
 use Rattle.segment_c.specs.Handles.{ReadsHandle}
 use Rattle.segment_c.specs.{Calls.HoldsSegment, Calls.PerformsCall, Marked.RaisesMoves}
 
@@ -37,7 +37,7 @@ performs {new = new} same back f r = record {
 }
 
 -- a call that changes the segment
-pub changes : {wrong its code : ℕ} {old lent new : SegmentSlot} {P Q : SegmentState → SegmentState → Type 0}
+pub changes : {wrong its code : ℕ} {old lent new : Slot} {P Q : SegmentState → SegmentState → Type 0}
     → its ≡ wrong → lent.segment.value ≡ old.segment.value → lent.marks ≡ old.marks
     → ((s t : SegmentState) → P s t → Q s t) → ChangesHandle its code lent new P → ChangesHandle wrong code old new Q
 changes {code = code} {new = new} same back marks f r = record {
@@ -47,7 +47,7 @@ changes {code = code} {new = new} same back marks f r = record {
 }
 
 -- a call that asks the segment
-pub asks : {wrong code : ℕ} {old lent new : SegmentSlot} {P : SegmentState → SegmentState → Type 0}
+pub asks : {wrong code : ℕ} {old lent new : Slot} {P : SegmentState → SegmentState → Type 0}
     → lent.segment.value ≡ old.segment.value → lent.marks ≡ old.marks → AsksHandle wrong code lent new P
     → AsksHandle wrong code old new P
 asks back marks r =
@@ -56,7 +56,7 @@ asks back marks r =
 -- ---- a call that reads the segment
 
 -- the segment is taken out of its handle, read, and put back
-pub reads : {wrong code : ℕ} {old new : SegmentSlot} {P : SegmentState → Type 0} {s t : SegmentState} → wrong ≡ 0
+pub reads : {wrong code : ℕ} {old new : Slot} {P : SegmentState → Type 0} {s t : SegmentState} → wrong ≡ 0
     → old.segment.value ≡ Some s → new.segment.value ≡ Some s → new.marks ≡ old.marks → t ≡ s → P t
     → ReadsHandle wrong code old new P
 reads {P = P} {s} {t} right was is marks same p = record {

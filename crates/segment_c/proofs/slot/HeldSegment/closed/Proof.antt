@@ -1,6 +1,6 @@
 -- `closed` makes a handle that is null.
-use Rattle.segment_c.specs.contracts.segment_slot.HeldSegment.closed as f
-use Rattle.segment_c.proofs.segment_slot.HeldSegment.closed.Code as code
+use Rattle.segment_c.specs.contracts.slot.HeldSegment.closed as f
+use Rattle.segment_c.proofs.slot.HeldSegment.closed.Code as code
 use Rattle.std.proofs.Common.{◌≡◌, List, [], ◌∷◌, ◌++◌, refl, sym, subst}
 use mir.Val.{Val}
 use base.Logic.{SProp, ent, emp, id⊢}
@@ -20,9 +20,9 @@ use denote.Triple.Walked.{Stays, stay_dropped, walk_of, Goes-dropped}
 use Rattle.std.proofs.{alloc.Calls.handle_tells, raw_atomic.Walks.proved_at, raw_atomic.Walks.leaves}
 use Rattle.std.specs.{declared.option.Option.Option, declared.option.Option.TheVariants.None}
 use Rattle.boxed.proofs.Values.{both}
-use Rattle.segment_c.proofs.segment_slot.MachineValues.{Z, al, null_good, handle_in}
+use Rattle.segment_c.proofs.slot.MachineValues.{Z, al, null_good, handle_in}
 use Rattle.segment_manager.specs.contracts.Segment.{the_row as R}
-use Rattle.segment_c.proofs.segment_slot.HeldSegment.closed.Statement.{statement}
+use Rattle.segment_c.proofs.slot.HeldSegment.closed.Statement.{statement}
 
 abbrev hs : Stays f.ended.signature.params f.ended.kept
 hs = (stay_dropped _ f.ended.kept.0, tt)

@@ -5,7 +5,7 @@ ghost use Rattle.seg_types.specs.{Keys.index_key_seen, Keys.key_seen, Keys.new_k
 ghost use Rattle.seg_types.specs.Names.{NoKey};
 ghost use Rattle.segment_c.specs.Passed.{entry_of, entry_wrong, key_of, key_wrong, literal_in, new_of, new_wrong};
 ghost use Rattle.segment_c.specs.Passed.{or_else, slice_wrong, scalar_kind_in, value_wrong};
-ghost use Rattle.segment_c.specs.Calls.{RefusesCall};
+ghost use Rattle.segment_c.specs.{Calls.RefusesCall, Handles.Enters};
 ghost use Rattle.segment_manager.specs.objects.NewObjects.{IsOfKind};
 
 use crate::keys::CKey;
@@ -56,10 +56,8 @@ pub fn take_for(h: &mut Slot, key: &Key<'_>) -> Result<Box<Segment>, u32>
 /// Returns the key of an object that is there, and the segment.
 #[inline(always)]
 pub fn enter<'a>(h: &mut Slot, key: &CKey<'a>) -> Result<(Key<'a>, Box<Segment>), u32>
-    ensures entry { MatchResult result (λ it. (key_wrong key.now ≡ 0) × (key_seen it.0 ≡ key_of key.now)
-        × (key_seen it.0 ≢ NoKey) × (h.old.segment.value ≡ Some it.1.value) × (h.new.segment.value ≡ None))
-        (λ code. RefusesCall (key_wrong key.now) code h.old.segment.value h.new.segment.value) }
-    ensures marks { h.new.marks ≡ h.old.marks }
+    ensures { Enters (key_wrong key.now) (λ it. (key_seen it.0 ≡ key_of key.now) × (key_seen it.0 ≢ NoKey))
+        (λ it. it.1.value) result h.old h.new }
 {
     let which = key.key()?;
     let segment = take_for(h, &which)?;
@@ -73,12 +71,8 @@ pub fn enter_with<'a>(
     key: &CKey<'a>,
     value: &CScalar,
 ) -> Result<(Key<'a>, ScalarValue, Box<Segment>), u32>
-    ensures entry { MatchResult result (λ it. (or_else (key_wrong key.now) (value_wrong value.now) ≡ 0)
-        × (key_seen it.0 ≡ key_of key.now) × (literal_in value.now ≡ literal_seen it.1)
-        × (h.old.segment.value ≡ Some it.2.value) × (h.new.segment.value ≡ None))
-        (λ code. RefusesCall (or_else (key_wrong key.now) (value_wrong value.now)) code h.old.segment.value
-        h.new.segment.value) }
-    ensures marks { h.new.marks ≡ h.old.marks }
+    ensures { Enters (or_else (key_wrong key.now) (value_wrong value.now)) (λ it. (key_seen it.0 ≡ key_of key.now)
+        × (literal_in value.now ≡ literal_seen it.1)) (λ it. it.2.value) result h.old h.new }
 {
     let which = key.key()?;
     let scalar = value.scalar()?;
@@ -92,12 +86,8 @@ pub fn enter_slice<'a>(
     key: &CKey<'a>,
     values: &CScalars,
 ) -> Result<(Key<'a>, ScalarKind, Box<Segment>), u32>
-    ensures entry { MatchResult result (λ it. (or_else (key_wrong key.now) (slice_wrong values.now) ≡ 0)
-        × (key_seen it.0 ≡ key_of key.now) × (it.1 ≡ scalar_kind_in values.now.kind)
-        × (h.old.segment.value ≡ Some it.2.value) × (h.new.segment.value ≡ None))
-        (λ code. RefusesCall (or_else (key_wrong key.now) (slice_wrong values.now)) code h.old.segment.value
-        h.new.segment.value) }
-    ensures marks { h.new.marks ≡ h.old.marks }
+    ensures { Enters (or_else (key_wrong key.now) (slice_wrong values.now)) (λ it. (key_seen it.0 ≡ key_of key.now)
+        × (it.1 ≡ scalar_kind_in values.now.kind)) (λ it. it.2.value) result h.old h.new }
 {
     let which = key.key()?;
     let kind = values.scalar_kind()?;
@@ -111,11 +101,8 @@ pub fn enter_new<'a>(
     key: &CKey<'a>,
     kind: Kind,
 ) -> Result<(NewKey<'a>, Box<Segment>), u32>
-    ensures entry { MatchResult result (λ it. (new_wrong key.now kind ≡ 0)
-        × (new_key_seen it.0 ≡ new_of key.now kind) × IsOfKind (new_key_seen it.0) kind
-        × (h.old.segment.value ≡ Some it.1.value) × (h.new.segment.value ≡ None))
-        (λ code. RefusesCall (new_wrong key.now kind) code h.old.segment.value h.new.segment.value) }
-    ensures marks { h.new.marks ≡ h.old.marks }
+    ensures { Enters (new_wrong key.now kind) (λ it. (new_key_seen it.0 ≡ new_of key.now kind)
+        × IsOfKind (new_key_seen it.0) kind) (λ it. it.1.value) result h.old h.new }
 {
     let which = if key.how == 3 {
         NewKey::Anonymous
@@ -131,11 +118,8 @@ pub fn enter_entry<'a>(
     key: &CKey<'a>,
     kind: Kind,
 ) -> Result<(IndexKey<'a>, Box<Segment>), u32>
-    ensures entry { MatchResult result (λ it. (entry_wrong key.now kind ≡ 0)
-        × (index_key_seen it.0 ≡ entry_of key.now kind) × IsOfKind (index_key_seen it.0) kind
-        × (h.old.segment.value ≡ Some it.1.value) × (h.new.segment.value ≡ None))
-        (λ code. RefusesCall (entry_wrong key.now kind) code h.old.segment.value h.new.segment.value) }
-    ensures marks { h.new.marks ≡ h.old.marks }
+    ensures { Enters (entry_wrong key.now kind) (λ it. (index_key_seen it.0 ≡ entry_of key.now kind)
+        × IsOfKind (index_key_seen it.0) kind) (λ it. it.1.value) result h.old h.new }
 {
     let which = key.entry(kind)?;
     Ok((which, take(h)?))

@@ -3,7 +3,8 @@ ghost use Rattle.std.specs.Prelude.{◌≡◌, ◌≤◌, IsTrue, MatchResult};
 ghost use Rattle.std.specs.declared.option.Option.TheVariants.{Some as Held};
 ghost use Rattle.raw_region.specs.Memory.{whole};
 ghost use Rattle.seg_types.specs.Refusals.{refusal_number};
-ghost use Rattle.segment_c.specs.{Codes.answer_for, Codes.is_answer, Marked.raised, Passed.element_in};
+ghost use Rattle.segment_c.specs.Codes.{answer_for, is_answer};
+ghost use Rattle.segment_c.specs.{Handles.PutsBack, Marked.raised, Passed.element_in};
 ghost use Rattle.segment_manager.specs.Answers.{Answer, Done, Found, Made, Refused, Boolean};
 ghost use Rattle.segment_manager.specs.State.{done_answer, handle_answer, scalar_answer, truth_answer};
 ghost use Rattle.segment_manager.specs.objects.Found.{found_answer, found_object_answer};
@@ -152,11 +153,8 @@ pub fn made(
     h: &mut Slot,
     segment: Box<Segment>,
 ) -> u32
-    ensures outcome { answer_for result (Made handle.new) ≡ handle_answer made }
-    ensures answer { IsTrue (is_answer result) }
-    ensures unchanged_on_error { 1 ≤ result → handle.new ≡ handle.old }
-    ensures effect { h.new.segment.value ≡ Held segment.value }
-    ensures marks { h.new.marks ≡ raised h.old.marks }
+    ensures { PutsBack (Made handle.new) (handle_answer made) (handle.new ≡ handle.old) result segment.value h.new
+        (raised h.old.marks) }
 {
     let code = code_for!(made, at => *handle = at);
     put_changed(code, h, segment)
@@ -169,11 +167,8 @@ pub fn truth(
     h: &mut Slot,
     segment: Box<Segment>,
 ) -> u32
-    ensures outcome { answer_for result (Boolean holds.new) ≡ truth_answer truth }
-    ensures answer { IsTrue (is_answer result) }
-    ensures unchanged_on_error { 1 ≤ result → holds.new ≡ holds.old }
-    ensures effect { h.new.segment.value ≡ Held segment.value }
-    ensures marks { h.new.marks ≡ raised h.old.marks }
+    ensures { PutsBack (Boolean holds.new) (truth_answer truth) (holds.new ≡ holds.old) result segment.value h.new
+        (raised h.old.marks) }
 {
     let code = code_for!(truth, it => *holds = it);
     put_changed(code, h, segment)
@@ -197,11 +192,8 @@ pub fn found(
     h: &mut Slot,
     segment: Box<Segment>,
 ) -> u32
-    ensures outcome { answer_for result (Found handle.new count.new) ≡ found_object_answer found }
-    ensures answer { IsTrue (is_answer result) }
-    ensures unchanged_on_error { 1 ≤ result → (handle.new ≡ handle.old) × (count.new ≡ count.old) }
-    ensures effect { h.new.segment.value ≡ Held segment.value }
-    ensures marks { h.new.marks ≡ raised h.old.marks }
+    ensures { PutsBack (Found handle.new count.new) (found_object_answer found)
+        ((handle.new ≡ handle.old) × (count.new ≡ count.old)) result segment.value h.new (raised h.old.marks) }
 {
     let code = code_for!(found, (at, many) => { *handle = at; *count = many; });
     put_changed(code, h, segment)
@@ -216,11 +208,8 @@ pub fn found_or_absent(
     h: &mut Slot,
     segment: Box<Segment>,
 ) -> u32
-    ensures outcome { answer_for result (Found handle.new count.new) ≡ found_answer found }
-    ensures answer { IsTrue (is_answer result) }
-    ensures unchanged_on_error { 1 ≤ result → (handle.new ≡ handle.old) × (count.new ≡ count.old) }
-    ensures effect { h.new.segment.value ≡ Held segment.value }
-    ensures marks { h.new.marks ≡ h.old.marks }
+    ensures { PutsBack (Found handle.new count.new) (found_answer found)
+        ((handle.new ≡ handle.old) × (count.new ≡ count.old)) result segment.value h.new h.old.marks }
 {
     let code = code_for!(found, Some((at, many)) => { *handle = at; *count = many; });
     put(code, h, segment)
@@ -233,11 +222,8 @@ pub fn value_found(
     h: &mut Slot,
     segment: Box<Segment>,
 ) -> u32
-    ensures outcome { answer_for result (element_in value.new) ≡ any_value_answer found }
-    ensures answer { IsTrue (is_answer result) }
-    ensures unchanged_on_error { 1 ≤ result → value.new ≡ value.old }
-    ensures effect { h.new.segment.value ≡ Held segment.value }
-    ensures marks { h.new.marks ≡ h.old.marks }
+    ensures { PutsBack (element_in value.new) (any_value_answer found) (value.new ≡ value.old) result segment.value
+        h.new h.old.marks }
 {
     let code = code_for!(found, Some(it) => *value = CScalar::of(it));
     put(code, h, segment)

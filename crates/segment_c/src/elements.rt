@@ -1,16 +1,14 @@
 //! Elements of objects of scalars, of vectors and of strings.
 ghost use Rattle.std.specs.Prelude.{◌≡◌, ◌≤◌, OnErr, false, true};
-ghost use Rattle.seg_types.specs.Values.{kind_of_scalar};
 ghost use Rattle.seg_types.specs.Commands.{Erase, Insert, Integer, Pop, Push, Set};
-ghost use Rattle.seg_types.specs.{Keys.key_seen, Names.ByHandle, Written.literal_seen};
 ghost use Rattle.seg_types.specs.declared.kinds.Kind.TheVariants.{Strings as StringsKind, Vector as VectorOf};
+ghost use Rattle.seg_types.specs.{Keys.key_seen, Names.ByHandle, Values.kind_of_scalar, Written.literal_seen};
 ghost use Rattle.segment_c.specs.{Codes.answer_for, Handles.ChangesHandle, Handles.DoesCommand};
 ghost use Rattle.segment_c.specs.Passed.{element_in, key_of, key_wrong, literal_in, or_else, value_wrong};
 ghost use Rattle.segment_c.specs.Reads.{TellsElement, vector_kind_at};
 ghost use Rattle.segment_manager.specs.{Answers.Done, Answers.refusal_of, Step.step_of_kind};
 ghost use Rattle.segment_manager.specs.State.{AnswersWith, TakesStep, TakesStepOfKind, Transitions, done_answer};
 ghost use Rattle.segment_manager.specs.{State.scalar_answer, containers.TextLists.LeadsOnOfKind};
-ghost use Rattle.segment_values.specs.Changes.{command_at};
 
 use crate::calls::{enter, enter_with, passed};
 use crate::changes::{ObjectChange, make_change};
@@ -21,7 +19,7 @@ use crate::values::CScalar;
 use seg_types::{Handle, Key, Kind, Refusal, ScalarKind, ScalarValue, by_kind, by_value};
 use segment_manager::unchecked::object_here;
 use segment_manager::{Segment, is_remembered, locate, push_within};
-use segment_values::{InsertSpot, get, get_element};
+use segment_values::{InsertSpot, add, get, get_element};
 
 /// Returns the element at `index` in the object of a key: of scalars, of a vector of scalars, or of a string, which has
 /// bytes.
@@ -124,7 +122,7 @@ fn push(segment: &mut Segment, key: &Key, value: ScalarValue) -> Result<(), Refu
     match push_own(segment, key, value) {
         Ok(()) => Ok(()),
         Err(why) => match why {
-            Refusal::WrongKind => add(segment, key, InsertSpot::End, value),
+            Refusal::WrongKind => add(segment, key, InsertSpot::End, &value, &mut ()),
             _ => Err(why),
         },
     }
@@ -147,22 +145,9 @@ pub extern "C" fn zx_insert(h: &mut Slot, key: &CKey, index: u64, value: &CScala
         (Insert (key_of key.now) index (literal_in value.now)) result h.old h.new }
 {
     let (which, new, mut segment) = passed!(enter_with(h, key, value));
-    let answer = add(&mut segment, &which, InsertSpot::Before(index), new);
+    let spot = InsertSpot::Before(index);
+    let answer = add(&mut segment, &which, spot, &new, &mut ());
     done(answer, h, segment)
-}
-
-/// Puts a value into the vector of a key, where the spot says.
-fn add(
-    segment: &mut Segment,
-    key: &Key,
-    spot: InsertSpot,
-    value: ScalarValue,
-) -> Result<(), Refusal>
-    ensures step { TakesStep segment.old segment.new (command_at spot (key_seen key.now) (literal_seen value))
-        (done_answer result) }
-    ensures refused { OnErr result (segment.new ≡ segment.old) }
-{
-    segment_values::add(segment, key, spot, &value, &mut ())
 }
 
 /// Leaves out the element at `index` in the vector of a key, of scalars or of strings.

@@ -1,19 +1,16 @@
 //! Segments made, opened, looked at, saved and closed.
-ghost use Rattle.std.specs.Prelude.{◌≡◌, ◌≢◌, ◌≤◌, ◌⊎◌, ◌↔◌, ◌+◌, IfErr, IfOk, IsTrue, MatchOption, MatchResult};
+ghost use Rattle.std.specs.Prelude.{◌≡◌, ◌≢◌, ◌≤◌, ◌↔◌, ◌+◌, MatchOption, MatchResult, false};
 ghost use Rattle.std.specs.declared.option.Option.TheVariants.{None, Some};
-ghost use Rattle.std.specs.Prelude.{false, length, min};
 ghost use Rattle.block_tags.specs.Format.{is_legal_size};
 ghost use Rattle.image_check.specs.{Classes.number_of, declared.errors.OpenError.TheVariants.ReadFault};
 ghost use Rattle.raw_region.specs.{Memory.zeros, Regions.IsCapacity};
 ghost use Rattle.seg_types.specs.Commands.{Free, Size};
 ghost use Rattle.segment_c.specs.Opening.{IsImageOpened, IsNoImage, IsPlaced, IsWhyNotOpened, OpensInHandle};
-ghost use Rattle.segment_c.specs.Images.{CopiesOut, mode_code, mode_of, mode_wrong};
-ghost use Rattle.segment_c.specs.{Opening.code_of_cause, Opening.place_of_cause, Opening.size_said};
-ghost use Rattle.segment_c.specs.{Handles.AsksHandle, Handles.AsksSegment, Marked.placed, Marked.PlacesSegment};
-ghost use Rattle.segment_c.specs.Calls.{HoldsSegment};
-ghost use Rattle.segment_manager.specs.{Calls.CreatesOk, State.IsSegment, State.SegmentState};
+ghost use Rattle.segment_c.specs.Opening.{code_of_cause, place_of_cause, size_said};
+ghost use Rattle.segment_c.specs.{Calls.HoldsSegment, Handles.AsksHandle, Handles.AsksSegment, Marked.PlacesSegment};
+ghost use Rattle.segment_c.specs.{Images.CopiesOut, Images.mode_code, Images.mode_of, Images.mode_wrong, Marked.placed};
 ghost use Rattle.segment_manager.specs.{blocks.Resized.room_behind, declared.modes.Mode.TheVariants.Write};
-ghost use Rattle.segment_manager.specs.Answers.{Number};
+ghost use Rattle.segment_manager.specs.{Answers.Number, Calls.CreatesOk, State.IsSegment, State.SegmentState};
 
 use crate::calls::{ask, passed};
 use crate::codes::{
@@ -40,7 +37,17 @@ pub extern "C" fn zx_create(h: &mut Slot, size: u64) -> u32
     ensures unchanged_on_error { 1 ≤ result → h.new.segment.value ≡ h.old.segment.value }
     ensures marks { PlacesSegment result h.old.marks h.new.marks false }
 {
-    let segment = passed!(new_segment(h.alloc, size));
+    if !is_legal_size(size) {
+        return BAD_SIZE;
+    }
+    let region = match RawRegion::new(h.alloc, size) {
+        Ok(region) => region,
+        Err(refusal) => return no_memory(MemoryFault::Bytes(refusal)),
+    };
+    let Ok(segment) = Segment::create(region, 0, size, Mode::Write) else {
+        unreachable!()
+    };
+    let segment = passed!(boxed_or_not(h.alloc, segment));
     put_new(h, segment, false)
 }
 
@@ -77,7 +84,11 @@ pub extern "C" fn zx_mode(h: &mut Slot, mode: &mut u32) -> u32
         × (mode.new ≡ mode_code s.mode)) }
     ensures unchanged_on_error { 1 ≤ result → mode.new ≡ mode.old }
 {
-    ask!(h, mode, segment => code_of_mode(segment.mode()))
+    ask!(h, mode, segment => match segment.mode() {
+        Mode::Write => 0,
+        Mode::ReadOnly => 1,
+        Mode::CopyOnWrite => 2,
+    })
 }
 
 /// Returns the number of bytes of the region after the segment.
@@ -115,36 +126,6 @@ pub fn copy_out(bytes: &[u8], buffer: &mut [u8]) -> u32
     }
     buffer[..bytes.len()].copy_from_slice(bytes);
     DONE
-}
-
-/// Returns the code of a mode.
-fn code_of_mode(mode: Mode) -> u32
-    ensures { result ≡ mode_code mode }
-{
-    match mode {
-        Mode::Write => 0,
-        Mode::ReadOnly => 1,
-        Mode::CopyOnWrite => 2,
-    }
-}
-
-/// Returns an empty segment of `size` bytes in a box.
-fn new_segment(alloc: Global, size: u64) -> Result<Box<Segment>, u32>
-    ensures creation { IfOk result (λ s. IsTrue (is_legal_size size) × CreatesOk (zeros size) 0 size Write s.value) }
-    ensures refused { IfErr result (λ code. ((code ≡ 22) × (is_legal_size size ≡ false))
-        ⊎ ((code ≡ 26) × IsTrue (is_legal_size size))) }
-{
-    if !is_legal_size(size) {
-        return Err(BAD_SIZE);
-    }
-    let region = match RawRegion::new(alloc, size) {
-        Ok(region) => region,
-        Err(refusal) => return Err(no_memory(MemoryFault::Bytes(refusal))),
-    };
-    match Segment::create(region, 0, size, Mode::Write) {
-        Ok(segment) => boxed_or_not(alloc, segment),
-        Err(_) => unreachable!(),
-    }
 }
 
 /// Returns the segment whose image the bytes are, in a region of `capacity` bytes. What the handle had is freed. The
@@ -201,19 +182,10 @@ pub extern "C" fn zx_explain(alloc: Global, image: &[u8], place: &mut u64) -> u3
         *place = len;
         return class_code(ImageClass::Truncated);
     }
-    match region_for(alloc, size) {
-        Ok(region) => examine_in(alloc, image, region, place),
-        Err(refusal) => no_memory(MemoryFault::Bytes(refusal)),
-    }
-}
-
-/// Examines an image in a region that has room for the size that the bytes say.
-fn examine_in(alloc: Global, image: &[u8], region: RawRegion, place: &mut u64) -> u32
-    requires { min (size_said image.now) 1073741824 ≤ length region }
-    ensures owner { result ≡ 0 → IsSegment image.now }
-    ensures cause { 1 ≤ result → IsNoImage image.now result }
-    ensures place { IsPlaced image.now result place.old place.new }
-{
+    let region = match region_for(alloc, size) {
+        Ok(region) => region,
+        Err(refusal) => return no_memory(MemoryFault::Bytes(refusal)),
+    };
     let steps = &mut Steps::new();
     let versions = AcceptedVersions::Current;
     match open_bytes(alloc, versions, image, region, 0, Mode::ReadOnly, steps) {
@@ -280,30 +252,9 @@ fn open_boxed(
         Ok(region) => region,
         Err(refusal) => return Err(no_memory(MemoryFault::Bytes(refusal))),
     };
-    boxed_or_not(alloc, open_in(alloc, image, region, mode, place)?)
-}
-
-/// Returns the segment whose image the bytes are, at the front of the region.
-///
-/// # Errors
-///
-/// The code.
-fn open_in(
-    alloc: Global,
-    image: &[u8],
-    region: RawRegion,
-    mode: Mode,
-    place: &mut u64,
-) -> Result<Segment, u32>
-    requires { region ≡ zeros (length region) }
-    ensures opening { MatchResult result (IsImageOpened image.now (length region) mode) (λ code. (1 ≤ code)
-        × IsWhyNotOpened image.now (length region) code) }
-    ensures place { MatchResult result (λ _. place.new ≡ place.old) (λ code.
-        IsPlaced image.now code place.old place.new) }
-{
     let versions = AcceptedVersions::Current;
     match open_bytes(alloc, versions, image, region, 0, mode, &mut Steps::new()) {
-        Ok(segment) => Ok(segment),
+        Ok(segment) => boxed_or_not(alloc, segment),
         Err(refused) => Err(refused_code(refused.cause, place)),
     }
 }

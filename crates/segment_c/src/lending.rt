@@ -1,9 +1,8 @@
 //! Segments in memory that C lends, as in a file that it mapped: they stand there, and no byte of them is copied.
-ghost use Rattle.std.specs.Prelude.{◌≡◌, ◌≤◌, MatchResult, false, if◌then◌else◌, length, true};
+ghost use Rattle.std.specs.Prelude.{◌≡◌, ◌≤◌, false, true};
 ghost use Rattle.std.specs.declared.option.Option.TheVariants.{None as NoSegment, Some as Held};
-ghost use Rattle.raw_region.specs.{Memory.part, Memory.whole, Regions.IsCapacity};
-ghost use Rattle.segment_c.specs.{Lending.IsOpenedHere, Lending.memory_wrong, Lending.OpensHere, Marked.PlacesSegment};
-ghost use Rattle.segment_c.specs.{Calls.RefusesClosed, Opening.IsPlaced, Opening.IsWhyNotOpened};
+ghost use Rattle.raw_region.specs.{Memory.part, Memory.whole};
+ghost use Rattle.segment_c.specs.{Calls.RefusesClosed, Lending.OpensHere, Marked.PlacesSegment, Opening.IsPlaced};
 ghost use Rattle.segment_manager.specs.State.{SegmentState};
 
 use crate::calls::passed;
@@ -13,8 +12,6 @@ use crate::resizing::is_capacity;
 use crate::slot::{Slot, put_new, take};
 use image_check::open_here;
 use raw_region::{LentMemory, RawRegion, Steps};
-use segment_manager::{Mode, Segment};
-use std::alloc::Global;
 
 /// Opens the image of `len` bytes at the front of the memory in place. It copies no byte, and writes none before the
 /// first call that changes the segment. The memory belongs to the handle until `zx_detach`. What the handle had is
@@ -39,7 +36,7 @@ pub extern "C" fn zx_attach_explained(
     ensures opening { OpensHere memory.old.bytes.items memory.new.bytes.items len mode result h.old h.new }
     ensures place { IsPlaced (part memory.old.bytes.items 0 len) result place.old place.new }
 {
-    if !holds(memory, len) {
+    if !is_capacity(memory.len) || memory.len < len {
         return BAD_SIZE;
     }
     let Some(mode) = mode_for(mode) else {
@@ -47,46 +44,18 @@ pub extern "C" fn zx_attach_explained(
     };
     let alloc = h.alloc;
     let region = RawRegion::over(alloc, std::mem::replace(memory, LentMemory::none()));
-    match open_over(alloc, region, len, mode, place) {
-        Ok(segment) => put_new(h, segment, true),
-        Err((code, region)) => {
-            *memory = region.leak();
-            code
-        }
-    }
-}
-
-/// Tells whether memory may be a region, and holds an image of `len` bytes.
-fn holds(memory: &LentMemory, len: u64) -> bool
-    ensures error { memory_wrong (length memory.now.bytes.items) len ≡ (if result then 0 else 22) }
-    ensures capacity { result ≡ true → IsCapacity (length memory.now.bytes.items) }
-    ensures fits { result ≡ true → len ≤ length memory.now.bytes.items }
-{
-    is_capacity(memory.len) && len <= memory.len
-}
-
-/// Returns the segment whose image stands at the front of the region, in a box.
-///
-/// # Errors
-///
-/// The code, and the region as it was.
-fn open_over(
-    alloc: Global,
-    region: RawRegion,
-    len: u64,
-    mode: Mode,
-    place: &mut u64,
-) -> Result<Box<Segment>, (u32, RawRegion)>
-    requires { len ≤ length region }
-    ensures opening { MatchResult result (λ s. IsOpenedHere region len mode s.value)
-        (λ refused. (1 ≤ refused.0) × (refused.1 ≡ region)
-        × IsWhyNotOpened (part region 0 len) (length region) refused.0) }
-    ensures place { MatchResult result (λ _. place.new ≡ place.old) (λ refused.
-        IsPlaced (part region 0 len) refused.0 place.old place.new) }
-{
     match open_here(alloc, region, 0, len, mode, &mut Steps::new()) {
-        Ok(segment) => boxed_or_region(alloc, segment),
-        Err(refused) => Err((refused_code(refused.cause, place), refused.region)),
+        Ok(segment) => match boxed_or_region(alloc, segment) {
+            Ok(segment) => put_new(h, segment, true),
+            Err((code, region)) => {
+                *memory = region.leak();
+                code
+            }
+        },
+        Err(refused) => {
+            *memory = refused.region.leak();
+            refused_code(refused.cause, place)
+        }
     }
 }
 

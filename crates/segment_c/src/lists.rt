@@ -2,13 +2,12 @@
 ghost use Rattle.std.specs.declared.option.Option.TheVariants.{None, Some};
 ghost use Rattle.std.specs.Prelude.{◌≡◌, ◌≤◌, slice_get};
 ghost use Rattle.best_fit.specs.Extents.{spans};
-ghost use Rattle.seg_types.specs.{Commands.NumNamed, Commands.NumUnique, Kinds.class_code};
-ghost use Rattle.segment_c.specs.Lists.{IsInfo, WritesInfo, TellsAlone, TellsBlock, WritesInfoOf, use_code};
+ghost use Rattle.seg_types.specs.{Commands.NumNamed, Commands.NumUnique};
+ghost use Rattle.segment_c.specs.Lists.{IsInfo, WritesInfo, TellsAlone, TellsBlock, WritesInfoOf};
 ghost use Rattle.segment_c.specs.Handles.{AsksSegment, ReadsDirectory, ReadsHandle};
 ghost use Rattle.segment_c.specs.Passed.{key_of, key_wrong};
 ghost use Rattle.segment_manager.specs.Directory.{Object, live, named_objects, object_at, unique_objects};
-ghost use Rattle.segment_manager.specs.indexes.NamesFrom.{IsFirstFrom};
-ghost use Rattle.segment_manager.specs.{Answers.Number, objects.Instances.IsInstance};
+ghost use Rattle.segment_manager.specs.{Answers.Number, indexes.NamesFrom.IsFirstFrom, objects.Instances.IsInstance};
 
 use crate::calls::{ask, enter, passed};
 use crate::codes::{DONE, NOT_FOUND, OUT_OF_RANGE, SHORT_BUFFER};
@@ -69,36 +68,16 @@ impl Info {
         ensures { (o : Object) → IsInstance o said.now → IsInfo o result }
     {
         Info {
-            found_by: class_code(said.class),
+            found_by: match said.class {
+                Class::Anonymous => 0,
+                Class::Named => 1,
+                Class::Unique => 2,
+            },
             kind: said.kind.code(),
             count: said.count,
             name_len: said.name.len() as u64,
             handle: said.handle,
         }
-    }
-}
-
-/// Returns the code of how an object is found again.
-fn class_code(class: Class) -> u32
-    ensures { result ≡ class_code class }
-{
-    match class {
-        Class::Anonymous => 0,
-        Class::Named => 1,
-        Class::Unique => 2,
-    }
-}
-
-/// Returns the code of what a block is for.
-fn use_code(use_of: Option<Role>) -> u32
-    ensures { result ≡ use_code use_of }
-{
-    match use_of {
-        None => 0,
-        Some(Role::Object) => 1,
-        Some(Role::Index) => 2,
-        Some(Role::Storage) => 3,
-        Some(Role::Node) => 4,
     }
 }
 
@@ -172,7 +151,13 @@ pub extern "C" fn zx_tile_at(h: &mut Slot, index: u64, block: &mut CBlock) -> u3
     *block = CBlock {
         offset: span.offset,
         len: span.len,
-        use_of: use_code(span.use_of),
+        use_of: match span.use_of {
+            None => 0,
+            Some(Role::Object) => 1,
+            Some(Role::Index) => 2,
+            Some(Role::Storage) => 3,
+            Some(Role::Node) => 4,
+        },
     };
     put(DONE, h, segment)
 }

@@ -7,11 +7,10 @@ ghost use Rattle.segment_c.specs.{Calls.ReachesSegment, Codes.answer_for};
 ghost use Rattle.segment_c.specs.Handles.{AsksSegment, ChangesHandle, StepsSegment};
 ghost use Rattle.segment_c.specs.Passed.{element_in, key_of, key_wrong, literal_in, or_else, value_wrong};
 ghost use Rattle.segment_c.specs.Reads.{AsksPair, TellsPair, TellsPairOf, first_at, map_kinds_at, next_at};
-ghost use Rattle.segment_manager.specs.{Answers.Boolean, Directory.Directory, Keeping.UnchangedWhere};
-ghost use Rattle.segment_manager.specs.{Step.is_read_only, objects.BoundObjects.IsBound, objects.Located.IsLocated};
-ghost use Rattle.segment_manager.specs.State.{AnswersQuery, AnswersQueryOfKind, AnswersWith, DenotesCurrent, TakesStep};
-ghost use Rattle.segment_manager.specs.State.{TakesStepOfKind, truth_answer};
-ghost use Rattle.segment_manager.specs.containers.{Maps.any_value_answer, Walks.item_of_kinds};
+ghost use Rattle.segment_manager.specs.{containers.Maps.any_value_answer, containers.Walks.item_of_kinds};
+ghost use Rattle.segment_manager.specs.{Keeping.UnchangedWhere, State.DenotesCurrent, objects.Located.IsLocated};
+ghost use Rattle.segment_manager.specs.{Directory.Directory, State.AnswersQuery, State.AnswersWith, State.truth_answer};
+ghost use Rattle.segment_manager.specs.{Answers.Boolean, State.TakesStep, Step.is_read_only};
 ghost use Rattle.segment_values.specs.Absent.{LacksLiteral};
 
 use crate::calls::{enter, enter_with, passed, take_for};
@@ -108,16 +107,6 @@ fn number_at(segment: &Segment, _handle: Handle, object: Object, at: i64) -> Opt
     ensures { AnswersQuery segment.now (Lookup (ByHandle _handle) (Integer at)) (any_value_answer (Ok result)) }
 {
     holds_value(at);
-    number_in(segment, object, at)
-}
-
-/// Returns the value of a number in a located map from `i64` to `i64`.
-#[inline(always)]
-fn number_in(segment: &Segment, object: Object, at: i64) -> Option<ScalarValue>
-    requires { IsBound (MapOf I64 I64) object segment.now }
-    ensures { AnswersQueryOfKind segment.now (ByHandle object.handle) (MapOf I64 I64)
-        (Lookup (ByHandle object.handle) (Integer at)) (any_value_answer (Ok result)) }
-{
     Map::<i64, i64>::at(segment, object)
         .get(at)
         .map(ScalarValue::I64)
@@ -178,18 +167,6 @@ fn put_at(
     requires writing { is_read_only segment.old.mode ≡ false }
     ensures step { TakesStep segment.old segment.new (Put (ByHandle _handle) (Integer at) (Integer value))
         (truth_answer result) }
-    ensures refused { OnErr result (segment.new ≡ segment.old) }
-{
-    put_in(segment, object, at, value)
-}
-
-/// Puts a number at a number in a located map from `i64` to `i64`, and returns true if that is new.
-#[inline(always)]
-fn put_in(segment: &mut Segment, object: Object, at: i64, value: i64) -> Result<bool, Refusal>
-    requires object { IsBound (MapOf I64 I64) object segment.old }
-    requires writing { is_read_only segment.old.mode ≡ false }
-    ensures step { TakesStepOfKind segment.old segment.new (ByHandle object.handle) (MapOf I64 I64)
-        (Put (ByHandle object.handle) (Integer at) (Integer value)) (truth_answer result) }
     ensures refused { OnErr result (segment.new ≡ segment.old) }
 {
     MapMut::<i64, i64>::at(segment, object).insert(at, value)

@@ -1,16 +1,15 @@
 //! Objects made, found and destroyed.
-ghost use Rattle.std.specs.Prelude.{◌≡◌, ◌≤◌, ◌≢◌, MatchResult, OnErr, Some, map, replicate, ℕ};
+ghost use Rattle.std.specs.Prelude.{◌≡◌, ◌≤◌, MatchResult, Some, map, replicate, ℕ};
 ghost use Rattle.seg_types.specs.declared.kinds.Kind.TheVariants.{Map as MapOf, Scalar as ScalarOf};
 ghost use Rattle.seg_types.specs.declared.kinds.Kind.TheVariants.{String as StringKind, Strings as StringsKind};
 ghost use Rattle.seg_types.specs.Commands.{Bytes, Find, NoPairs, Numbers, Strings};
-ghost use Rattle.seg_types.specs.{Keys.key_seen, Kinds.scalar_of_code, Values.kind_of_scalar, Values.value_of_scalar};
-ghost use Rattle.seg_types.specs.Names.{NoKey};
+ghost use Rattle.seg_types.specs.{Kinds.scalar_of_code, Values.kind_of_scalar, Values.value_of_scalar};
 ghost use Rattle.segment_c.specs.Passed.{count_wrong, entry_wrong, key_of, key_wrong, kind_in, kind_wrong, new_wrong};
 ghost use Rattle.segment_c.specs.Passed.{object_kind_in, or_else, scalar_in, scalar_kind_in, scalar_kind_wrong};
 ghost use Rattle.segment_c.specs.{Calls.ReachesSegment, Codes.answer_for, Passed.value_wrong, Passed.whole_in};
 ghost use Rattle.segment_c.specs.{Destroying.destroy_command, Handles.AsksHandle, Handles.StepsSegment};
 ghost use Rattle.segment_c.specs.Making.{TellsMade, TellsFoundOrMade};
-ghost use Rattle.segment_manager.specs.State.{AnswersQuery, TakesStep, truth_answer};
+ghost use Rattle.segment_manager.specs.State.{AnswersQuery};
 ghost use Rattle.segment_manager.specs.{Answers.Found, Answers.Boolean, Keeping.UnchangedWhere, Keeping.LacksKey};
 
 use crate::calls::{enter, enter_entry, enter_new, passed};
@@ -18,8 +17,7 @@ use crate::codes::{BAD_COUNT, BAD_KIND, found, found_or_absent, made, truth};
 use crate::keys::CKey;
 use crate::slot::{Slot, take};
 use crate::values::CScalar;
-use seg_types::{IndexKey, Key, Kind, MAX_ARRAY_LEN, Refusal, ScalarKind, ScalarValue};
-use segment_manager::Segment;
+use seg_types::{IndexKey, Key, Kind, MAX_ARRAY_LEN, ScalarKind, ScalarValue};
 
 /// The most scalars of an array.
 pub(crate) const MOST: u32 = MAX_ARRAY_LEN as u32;
@@ -49,15 +47,6 @@ fn map_kinds(keys: u32, values: u32) -> Result<(ScalarKind, ScalarKind), u32>
         (Some(of_keys), Some(of_values)) => Ok((of_keys, of_values)),
         _ => Err(BAD_KIND),
     }
-}
-
-/// Returns the kind of objects with this code, or `BAD_KIND`.
-#[tactic(auto, unfolding(crate::specs::Passed::kind_wrong, crate::specs::Passed::object_kind_in))]
-fn object_kind(code: u32) -> Result<Kind, u32>
-    ensures { MatchResult result (λ kind. (kind_wrong code ≡ 0) × (kind ≡ object_kind_in code)) (λ wrong.
-        (wrong ≡ kind_wrong code) × (1 ≤ wrong)) }
-{
-    Kind::from_code(code).ok_or(BAD_KIND)
 }
 
 /// Makes an object of `count` scalars, each with the value.
@@ -209,6 +198,7 @@ pub extern "C" fn zx_find_or_construct_map(
 
 /// Finds the object of the key, which must have this kind.
 #[unsafe(no_mangle)]
+#[tactic(auto, unfolding(crate::specs::Passed::kind_wrong, crate::specs::Passed::object_kind_in))]
 pub extern "C" fn zx_find(
     h: &mut Slot,
     key: &CKey,
@@ -222,7 +212,7 @@ pub extern "C" fn zx_find(
     ensures outputs_on_error { 1 ≤ result → (handle.new ≡ handle.old) × (count.new ≡ count.old) }
 {
     let which = passed!(key.key());
-    let of_kind = passed!(object_kind(kind));
+    let of_kind = passed!(Kind::from_code(kind).ok_or(BAD_KIND));
     let segment = passed!(take(h));
     let answer = segment.find_kind(&which, of_kind);
     found_or_absent(answer, handle, count, h, segment)
@@ -238,23 +228,11 @@ pub extern "C" fn zx_destroy(h: &mut Slot, key: &CKey, was_there: &mut bool) -> 
         UnchangedWhere s t (LacksKey (key_of key.now))) }
 {
     let (which, mut segment) = passed!(enter(h, key));
-    truth(destroy(&mut segment, &which), was_there, h, segment)
-}
-
-/// Destroys the object of a key, and returns whether it existed; `NotFound` if no object has the handle.
-fn destroy(segment: &mut Segment, which: &Key) -> Result<bool, Refusal>
-    requires { key_seen which.now ≢ NoKey }
-    ensures step { TakesStep segment.old segment.new (destroy_command (key_seen which.now)) (truth_answer result) }
-    ensures refused { OnErr result (segment.new ≡ segment.old) }
-    ensures absent { UnchangedWhere segment.old segment.new (LacksKey (key_seen which.now)) }
-{
-    match *which {
+    let answer = match which {
         Key::Name(name) => segment.destroy(&IndexKey::Name(name)),
         Key::Unique(kind) => segment.destroy(&IndexKey::Unique(kind)),
-        Key::Handle(handle) => {
-            segment.destroy_ptr(handle)?;
-            Ok(true)
-        }
+        Key::Handle(handle) => segment.destroy_ptr(handle).and(Ok(true)),
         Key::Anonymous => unreachable!(),
-    }
+    };
+    truth(answer, was_there, h, segment)
 }

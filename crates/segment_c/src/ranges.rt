@@ -1,13 +1,12 @@
 //! Elements of arrays and vectors of scalars, several read or written by one call.
-ghost use Rattle.std.specs.Prelude.{◌≡◌, ◌≤◌, OnErr, length, map, pos};
+ghost use Rattle.std.specs.Prelude.{◌≡◌, ◌≤◌, length, map, pos};
 ghost use Rattle.seg_types.specs.declared.kinds.ScalarKind.TheVariants.{Bool as BoolKind, I32 as I32Kind};
 ghost use Rattle.seg_types.specs.declared.kinds.ScalarKind.TheVariants.{I64 as I64Kind, U8 as U8Kind, U64 as U64Kind};
 ghost use Rattle.seg_types.specs.{Keys.key_seen, Kinds.truth_number};
-ghost use Rattle.segment_c.specs.Passed.{key_of, key_wrong, numbers_of, or_else, slice_of, slice_wrong};
-ghost use Rattle.segment_c.specs.{Handles.ChangesHandle, Passed.scalar_kind_in, Reads.IsCoded, Reads.ReadsRange};
-ghost use Rattle.segment_c.specs.Codes.{answer_for};
+ghost use Rattle.segment_c.specs.Passed.{key_of, key_wrong, or_else, slice_of, slice_wrong, scalar_kind_in};
+ghost use Rattle.segment_c.specs.{Codes.answer_for, Handles.ChangesHandle, Reads.IsCoded, Reads.ReadsRange};
 ghost use Rattle.segment_manager.specs.{Directory.Directory, State.DenotesCurrent};
-ghost use Rattle.segment_manager.specs.{Answers.Done, State.done_answer, containers.Ranges.WritesRange};
+ghost use Rattle.segment_manager.specs.{Answers.Done, containers.Ranges.WritesRange};
 ghost use Rattle.segment_values.specs.Ranges.{range_at};
 
 use crate::calls::{enter, enter_slice, passed};
@@ -15,7 +14,7 @@ use crate::codes::{DONE, code_for, code_of, done};
 use crate::keys::CKey;
 use crate::slices::{CScalars, on_slice};
 use crate::slot::{Slot, put};
-use seg_types::{Key, Refusal, Scalar, ScalarKind};
+use seg_types::{Key, Scalar, ScalarKind};
 use segment_manager::{Segment, locate};
 use segment_values::read_elements;
 
@@ -83,21 +82,6 @@ pub extern "C" fn zx_read_u64s(h: &mut Slot, key: &CKey, first: u64, series: &mu
     read_range::<u64>(h, key, first, series)
 }
 
-/// Makes the values of a row, of which the slice of a kind is meant, elements of the object of a key, from `first` on.
-fn write_slice(
-    segment: &mut Segment,
-    key: &Key,
-    first: u64,
-    kind: ScalarKind,
-    series: &CScalars,
-) -> Result<(), Refusal>
-    ensures step { WritesRange segment.old segment.new (key_seen key.now) kind first (numbers_of series.now kind)
-        (done_answer result) }
-    ensures refused { OnErr result (segment.new ≡ segment.old) }
-{
-    on_slice!(series, kind, slice => segment.write_range(key, first, slice))
-}
-
 /// Makes the values elements of the array or vector of a key, of their kind, from `first` on: all of them or none.
 #[unsafe(no_mangle)]
 pub extern "C" fn zx_write_elements(h: &mut Slot, key: &CKey, first: u64, values: &CScalars) -> u32
@@ -106,6 +90,6 @@ pub extern "C" fn zx_write_elements(h: &mut Slot, key: &CKey, first: u64, values
         (answer_for result Done)) }
 {
     let (which, kind, mut segment) = passed!(enter_slice(h, key, values));
-    let answer = write_slice(&mut segment, &which, first, kind, values);
+    let answer = on_slice!(values, kind, slice => segment.write_range(&which, first, slice));
     done(answer, h, segment)
 }

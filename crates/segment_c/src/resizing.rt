@@ -1,5 +1,5 @@
 //! Segments that become longer or shorter, and that move into other regions.
-ghost use Rattle.std.specs.Prelude.{◌≡◌, ◌<◌, ◌≤◌, ◌⊎◌, Some, false, if◌then◌else◌, length, true};
+ghost use Rattle.std.specs.Prelude.{◌≡◌, ◌<◌, ◌≤◌, ◌⊎◌, false, if◌then◌else◌, length, true};
 ghost use Rattle.std.specs.declared.option.Option.TheVariants.{Some as Held};
 ghost use Rattle.grow_shrink.specs.Resized.{growth_refusal, room_of, shrink_refusal};
 ghost use Rattle.grow_shrink.specs.LargerRegion.{GrowsOrMovesOk};
@@ -129,38 +129,16 @@ pub extern "C" fn zx_grow(h: &mut Slot, extra: u64) -> u32
 {
     let mut segment = passed!(take(h));
     let code = if h.marks.is_lent {
-        grow_here(&mut segment, extra)
+        match grow_shrink::grow(&mut segment, extra) {
+            Ok(()) => DONE,
+            Err(why) => code_of_growth(why),
+        }
     } else {
-        grow(h.alloc, &mut segment, extra)
+        match grow_or_move(h.alloc, &mut segment, extra) {
+            Ok(()) => DONE,
+            Err(GrowOrMoveError::Growth(reason)) => code_of_growth(reason),
+            Err(GrowOrMoveError::OutOfMemory(refusal)) => no_memory(MemoryFault::Bytes(refusal)),
+        }
     };
     put_changed(code, h, segment)
-}
-
-/// Makes a segment longer by `extra` bytes, in a larger region if its own has no room.
-fn grow(alloc: Global, segment: &mut Segment, extra: u64) -> u32
-    ensures code { (d : Directory) → DenotesCurrent segment.old.cut.bytes d
-        → IsGrowthCode segment.old extra result d }
-    ensures growth { result ≡ 0 → GrowsOrMovesOk segment.old segment.new extra }
-    ensures unchanged_on_error { 1 ≤ result → segment.new ≡ segment.old }
-{
-    match grow_or_move(alloc, segment, extra) {
-        Ok(()) => DONE,
-        Err(why) => match why {
-            GrowOrMoveError::Growth(reason) => code_of_growth(reason),
-            GrowOrMoveError::OutOfMemory(refusal) => no_memory(MemoryFault::Bytes(refusal)),
-        },
-    }
-}
-
-/// Makes a segment longer whose region C lent: it stays there.
-fn grow_here(segment: &mut Segment, extra: u64) -> u32
-    ensures code { (d : Directory) → DenotesCurrent segment.old.cut.bytes d
-        → result ≡ size_code (growth_refusal segment.old.mode d.size extra (room_of segment.old.cut)) }
-    ensures growth { result ≡ 0 → Resizes segment.old segment.new (λ d. grown d extra) }
-    ensures unchanged_on_error { 1 ≤ result → segment.new ≡ segment.old }
-{
-    match grow_shrink::grow(segment, extra) {
-        Ok(()) => DONE,
-        Err(why) => code_of_growth(why),
-    }
 }

@@ -1,7 +1,7 @@
 //! The handle that C holds: a pointer to a segment, or null, and what is noted beside it.
 ghost use Rattle.std.specs.declared.option.Option.TheVariants.{None, Some};
 ghost use Rattle.std.specs.{declared.option.Option.Option, Prelude.MatchOption, Prelude.MatchResult, Prelude.◌≡◌};
-ghost use Rattle.segment_c.specs.{Calls.RefusesCall, Held.held, Marked.placed, Marked.raised};
+ghost use Rattle.segment_c.specs.{Calls.RefusesCall, Held.held, Marked.PutsSegment, Marked.placed, Marked.raised};
 ghost use Rattle.segment_manager.specs.contracts.Segment.{the_row};
 
 use crate::codes::{CLOSED, DONE};
@@ -133,9 +133,7 @@ pub fn take(handle: &mut Slot) -> Result<Box<Segment>, u32>
 /// Puts a segment into a handle at the end of a call, and returns the call's code. What the handle had is freed.
 #[inline(always)]
 pub fn put(code: u32, handle: &mut Slot, segment: Box<Segment>) -> u32
-    ensures effect { handle.new.segment.value ≡ Some segment.value }
-    ensures code { result ≡ code }
-    ensures marks { handle.new.marks ≡ handle.old.marks }
+    ensures { PutsSegment result code handle.new.segment.value segment.value handle.new.marks handle.old.marks }
 {
     handle.segment = HeldSegment::of(RawBox::from_box(segment));
     code
@@ -146,9 +144,7 @@ pub fn put(code: u32, handle: &mut Slot, segment: Box<Segment>) -> u32
 #[inline(always)]
 pub fn put_taken_back(code: u32, handle: &mut Slot, segment: Box<Segment>) -> u32
     requires { handle.old.segment.value ≡ None }
-    ensures effect { handle.new.segment.value ≡ Some segment.value }
-    ensures code { result ≡ code }
-    ensures marks { handle.new.marks ≡ handle.old.marks }
+    ensures { PutsSegment result code handle.new.segment.value segment.value handle.new.marks handle.old.marks }
 {
     let segment = HeldSegment::of(RawBox::from_box(segment));
     match std::mem::replace(&mut handle.segment, segment).into_loose() {
@@ -160,9 +156,8 @@ pub fn put_taken_back(code: u32, handle: &mut Slot, segment: Box<Segment>) -> u3
 /// Puts a segment into a handle at the end of a call that may have changed it, and returns the call's code.
 #[inline(always)]
 pub fn put_changed(code: u32, handle: &mut Slot, segment: Box<Segment>) -> u32
-    ensures effect { handle.new.segment.value ≡ Some segment.value }
-    ensures code { result ≡ code }
-    ensures marks { handle.new.marks ≡ raised handle.old.marks }
+    ensures { PutsSegment result code handle.new.segment.value segment.value handle.new.marks
+        (raised handle.old.marks) }
 {
     handle.marks.raise();
     put(code, handle, segment)
@@ -171,9 +166,8 @@ pub fn put_changed(code: u32, handle: &mut Slot, segment: Box<Segment>) -> u32
 /// Puts a segment that was made or opened into a handle, and notes whether C lent its memory. What the handle had is
 /// freed.
 pub fn put_new(handle: &mut Slot, segment: Box<Segment>, is_lent: bool) -> u32
-    ensures effect { handle.new.segment.value ≡ Some segment.value }
-    ensures code { result ≡ 0 }
-    ensures marks { handle.new.marks ≡ placed handle.old.marks is_lent }
+    ensures { PutsSegment result 0 handle.new.segment.value segment.value handle.new.marks
+        (placed handle.old.marks is_lent) }
 {
     handle.marks.place(is_lent);
     put(DONE, handle, segment)

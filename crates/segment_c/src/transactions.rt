@@ -1,11 +1,11 @@
 //! Several calls as one: the segment is copied before them, and may be put back as it was.
 ghost use Rattle.std.specs.declared.option.Option.TheVariants.{None as NoSegment, Some as Held};
-ghost use Rattle.std.specs.Prelude.{◌≡◌, ◌≤◌, MatchResult, false, length};
+ghost use Rattle.std.specs.Prelude.{◌≡◌, ◌≤◌, false, length};
 ghost use Rattle.grow_shrink.specs.Resized.{room_of};
 ghost use Rattle.raw_region.specs.Memory.{SameSurroundings, cut_at, whole};
 ghost use Rattle.segment_c.specs.Transactions.{IsBeginCode, CopiesSegment, RollsBack, rollback_code};
 ghost use Rattle.segment_c.specs.{Calls.HoldsSegment, Calls.RefusesClosed, Marked.PlacesSegment, Marked.RaisesMoves};
-ghost use Rattle.segment_manager.specs.{State.IsSegment, State.SegmentState, Step.is_read_only};
+ghost use Rattle.segment_manager.specs.{State.IsSegment, State.SegmentState};
 
 use crate::calls::passed;
 use crate::codes::{DONE, READ_ONLY, SHORT_REGION, boxed_or_not, no_memory};
@@ -15,7 +15,6 @@ use image_check::MemoryFault;
 use raw_region::Window;
 use segment_manager::unchecked::adopt;
 use segment_manager::{Mode, Segment};
-use std::alloc::Global;
 
 /// Copies the segment to another handle, from which `zx_rollback` puts it back. What that had is freed. It is as it was
 /// unless the code is 0.
@@ -31,30 +30,17 @@ pub extern "C" fn zx_begin(h: &mut Slot, before: &mut Slot) -> u32
     ensures placement { PlacesSegment result before.old.marks before.new.marks false }
 {
     let segment = passed!(take(h));
-    let code = match copy_of(h.alloc, &segment) {
-        Ok(copy) => put_new(before, copy, false),
-        Err(code) => code,
+    if segment.mode() == Mode::ReadOnly {
+        return put(READ_ONLY, h, segment);
+    }
+    let code = match region_for(h.alloc, size_of(&segment)) {
+        Ok(region) => match boxed_or_not(h.alloc, copy_into(&segment, region)) {
+            Ok(copy) => put_new(before, copy, false),
+            Err(code) => code,
+        },
+        Err(refusal) => no_memory(MemoryFault::Bytes(refusal)),
     };
     put(code, h, segment)
-}
-
-/// Copies a segment to a region of its own, in a box.
-///
-/// # Errors
-///
-/// The code.
-fn copy_of(alloc: Global, segment: &Segment) -> Result<Box<Segment>, u32>
-    ensures { MatchResult result (λ copy. CopiesSegment segment.now copy.value
-        × IsBeginCode segment.now.mode 0) (λ code.
-        (1 ≤ code) × IsBeginCode segment.now.mode code) }
-{
-    if is_read_only(segment) {
-        return Err(READ_ONLY);
-    }
-    match region_for(alloc, size_of(segment)) {
-        Ok(region) => boxed_or_not(alloc, copy_into(segment, region)),
-        Err(refusal) => Err(no_memory(MemoryFault::Bytes(refusal))),
-    }
 }
 
 /// Makes the segment again what `zx_begin` copied, where it lies now, and closes the copy. Both are as they were unless
@@ -94,7 +80,7 @@ fn code_to_put_back(segment: &Segment, copy: &Segment) -> u32
     ensures code { result ≡ rollback_code segment.now copy.now }
     ensures room { result ≡ 0 → length copy.now.cut.bytes ≤ room_of segment.now.cut }
 {
-    if is_read_only(segment) {
+    if segment.mode() == Mode::ReadOnly {
         return READ_ONLY;
     }
     let (size, len) = (size_of(segment), size_of(copy));
@@ -103,13 +89,6 @@ fn code_to_put_back(segment: &Segment, copy: &Segment) -> u32
         return DONE;
     }
     SHORT_REGION
-}
-
-/// Tells whether a segment is open for reading.
-fn is_read_only(segment: &Segment) -> bool
-    ensures { result ≡ is_read_only segment.now.mode }
-{
-    segment.mode() == Mode::ReadOnly
 }
 
 /// Returns the segment whose image the bytes are, at the front of the region of another, and open as that is.

@@ -15,7 +15,7 @@ returns c =
           (λ i. or_else (key.0 i) (number-right c.of-value.result c.of-value.ensures i))
           (c.put_taken_back-2.ensures.effect ∙ ap Some (c.push_here.ensures.refused c.if-push_here.false
           ∙ c.deref_mut.ensures.value) ∙ sym c.in-Ok.ensures.transfer.0)
-          (c.put_taken_back-2.ensures.marks ∙ c.take.ensures.marks)
+          (c.put_taken_back-2.ensures.marks_are ∙ c.take.ensures.marks)
           (λ s t r. subst (λ (it : Command). TakesStep s t it (answer_for c.push_any.result Done))
           (λ i. Push (key.1 i) (number i)) r) c.push_any.ensures.call;
     }

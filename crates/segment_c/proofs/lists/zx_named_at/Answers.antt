@@ -15,10 +15,10 @@ named_instance-requires c =
 
 pub returns-then-index-num_named-clause-read : goal.returns-then-index-num_named-clause-read
 returns-then-index-num_named-clause-read c =
-    reads refl c.in-Ok.ensures.transfer.0 c.put.ensures.effect (c.put.ensures.marks ∙ c.take.ensures.marks)
+    reads refl c.in-Ok.ensures.transfer.0 c.put.ensures.effect (c.put.ensures.marks_are ∙ c.take.ensures.marks)
     c.deref.ensures (λ d st.
     let many = counted c.deref.result.now.mode d NumNamed c.num_named.result (length (named_objects d)) refl refl
     (c.num_named.ensures.answers d st) in
     subst (WritesInfoIfFound 8 c.args.info.now c.args.name.now c.args.name.now c.put.result)
     (sym (slice_get_past (named_objects d) c.args.index (omega (arith, c.if-index-num_named.true, many))))
-    c.put.ensures.code)
+    c.put.ensures.code_is)

@@ -15,10 +15,10 @@ unique_instance-requires c =
 
 pub returns-then-index-num_unique-clause-read : goal.returns-then-index-num_unique-clause-read
 returns-then-index-num_unique-clause-read c =
-    reads refl c.in-Ok.ensures.transfer.0 c.put.ensures.effect (c.put.ensures.marks ∙ c.take.ensures.marks)
+    reads refl c.in-Ok.ensures.transfer.0 c.put.ensures.effect (c.put.ensures.marks_are ∙ c.take.ensures.marks)
     c.deref.ensures (λ d st.
     let many = counted c.deref.result.now.mode d NumUnique c.num_unique.result (length (unique_objects d)) refl refl
     (c.num_unique.ensures.answers d st) in
     subst (TellsAlone c.args.info.now c.put.result)
     (sym (slice_get_past (unique_objects d) c.args.index (omega (arith, c.if-index-num_unique.true, many))))
-    c.put.ensures.code)
+    c.put.ensures.code_is)

@@ -13,7 +13,7 @@ returns-clause-call c =
     changes {old = c.args.h.now} {lent = c.put_taken_back.new.handle} {new = c.put_any.new.h}
     (λ i. or_else (key.0 i) (or_else (number-right c.of-at.result at i) (number-right c.of-value.result value i)))
     (c.put_taken_back.ensures.effect ∙ sym c.in-Ok.ensures.transfer.0)
-    (c.put_taken_back.ensures.marks ∙ c.take.ensures.marks)
+    (c.put_taken_back.ensures.marks_are ∙ c.take.ensures.marks)
     (λ s t r. subst (λ (it : Command). TakesStep s t it (answer_for c.put_any.result (Boolean c.put_any.new.is_new)))
     (λ i. Put (key.1 i) ((number-is c.of-at.result at ∙ ap Integer (to_z-of_z w64 c.args.at c.ranges.at)) i)
     ((number-is c.of-value.result value ∙ ap Integer (to_z-of_z w64 c.args.value c.ranges.value)) i)) r)

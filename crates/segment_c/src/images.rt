@@ -1,11 +1,11 @@
 //! Segments made, opened, looked at, saved and closed.
-ghost use Rattle.std.specs.Prelude.{◌≡◌, ◌≢◌, ◌≤◌, ◌↔◌, ◌+◌, MatchOption, MatchResult, false};
+ghost use Rattle.std.specs.Prelude.{◌≡◌, ◌≢◌, ◌≤◌, ◌↔◌, ◌+◌, MatchOption, false};
 ghost use Rattle.std.specs.declared.option.Option.TheVariants.{None, Some};
 ghost use Rattle.block_tags.specs.Format.{is_legal_size};
 ghost use Rattle.image_check.specs.{Classes.number_of, declared.errors.OpenError.TheVariants.ReadFault};
-ghost use Rattle.raw_region.specs.{Memory.zeros, Regions.IsCapacity};
+ghost use Rattle.raw_region.specs.{Memory.zeros};
 ghost use Rattle.seg_types.specs.Commands.{Free, Size};
-ghost use Rattle.segment_c.specs.Opening.{IsImageOpened, IsNoImage, IsPlaced, IsWhyNotOpened, OpensInHandle};
+ghost use Rattle.segment_c.specs.Opening.{IsNoImage, IsPlaced, OpensInHandle};
 ghost use Rattle.segment_c.specs.Opening.{code_of_cause, place_of_cause, size_said};
 ghost use Rattle.segment_c.specs.{Calls.HoldsSegment, Handles.AsksHandle, Handles.AsksSegment, Marked.PlacesSegment};
 ghost use Rattle.segment_c.specs.{Images.CopiesOut, Images.mode_code, Images.mode_of, Images.mode_wrong, Marked.placed};
@@ -155,8 +155,15 @@ pub extern "C" fn zx_open_explained(
     let Some(mode) = mode_for(mode) else {
         return BAD_MODE;
     };
-    let segment = passed!(open_boxed(h.alloc, image, capacity, mode, place));
-    put_new(h, segment, false)
+    let region = match RawRegion::new(h.alloc, capacity) {
+        Ok(region) => region,
+        Err(refusal) => return no_memory(MemoryFault::Bytes(refusal)),
+    };
+    let versions = AcceptedVersions::Current;
+    match open_bytes(h.alloc, versions, image, region, 0, mode, &mut Steps::new()) {
+        Ok(segment) => put_new(h, passed!(boxed_or_not(h.alloc, segment)), false),
+        Err(refused) => refused_code(refused.cause, place),
+    }
 }
 
 /// Checks that the bytes are the image of a segment, and returns a code.
@@ -231,31 +238,6 @@ pub fn mode_for(code: u32) -> Option<Mode>
         1 => Some(Mode::ReadOnly),
         2 => Some(Mode::CopyOnWrite),
         _ => None,
-    }
-}
-
-/// Returns the segment whose image the bytes are, in a box.
-fn open_boxed(
-    alloc: Global,
-    image: &[u8],
-    capacity: u64,
-    mode: Mode,
-    place: &mut u64,
-) -> Result<Box<Segment>, u32>
-    requires { IsCapacity capacity }
-    ensures opening { MatchResult result (λ s. IsImageOpened image.now capacity mode s.value) (λ code. (1 ≤ code)
-        × IsWhyNotOpened image.now capacity code) }
-    ensures place { MatchResult result (λ _. place.new ≡ place.old) (λ code.
-        IsPlaced image.now code place.old place.new) }
-{
-    let region = match RawRegion::new(alloc, capacity) {
-        Ok(region) => region,
-        Err(refusal) => return Err(no_memory(MemoryFault::Bytes(refusal))),
-    };
-    let versions = AcceptedVersions::Current;
-    match open_bytes(alloc, versions, image, region, 0, mode, &mut Steps::new()) {
-        Ok(segment) => boxed_or_not(alloc, segment),
-        Err(refused) => Err(refused_code(refused.cause, place)),
     }
 }
 

@@ -1,27 +1,13 @@
 -- The room of a region, and whether a copy is put into it.
-use Rattle.std.proofs.Common.{◌≡◌, sym, ap, ◌∙◌, ℕ, ◌+◌, ◌-◌, ◌<◌, ◌≤◌, ◌++◌, Bool, true, false, IsTrue, List}
+use Rattle.std.proofs.Common.{◌≡◌, sym, ap, ◌∙◌, ℕ, ◌+◌, ◌-◌, ◌<◌, ◌≤◌, ◌++◌, Bool, true, false}
 use Rattle.std.proofs.Common.{length, length-append, nat_le, arith, if◌then◌else◌}
 use Rattle.std.proofs.lemmas.Bool.{lt-leb}
 use Rattle.raw_region.specs.Memory.{WindowState, whole}
-use Rattle.raw_region.proofs.Facts.{first}
-use Rattle.block_tags.specs.Format.{is_legal_size}
-use Rattle.best_fit.specs.Extents.{is_proper, proper_from}
-use Rattle.segment_manager.specs.{Directory.live, State.IsSegment}
 use Rattle.grow_shrink.specs.Resized.{room_of}
-use Rattle.segment_c.proofs.transactions.Images.{legal_most}
 
 region-len : (c : WindowState) → length (whole c) ≡ length c.before + length c.bytes + length c.after
 region-len c =
     length-append (c.before ++ c.bytes) c.after ∙ ap (λ n. n + length c.after) (length-append c.before c.bytes)
-
--- a segment is not too long
-pub segment-small : (b : List ℕ) → IsSegment b → length b ≤ 1073741824
-unfolding is_proper
-segment-small b (d, st) =
-    let legal : IsTrue (is_legal_size (live d).size) =
-    first (is_legal_size (live d).size) (proper_from 128 (live d).extents ((live d).size - 16))
-    st.denotes.directory.proper in
-    omega (arith, legal_most (live d).size legal, st.denotes.heap.size)
 
 -- ---- the code
 

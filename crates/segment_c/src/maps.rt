@@ -185,7 +185,8 @@ fn put_any(h: &mut Slot, key: &CKey, at: &CScalar, value: &CScalar, is_new: &mut
     truth(answer, is_new, h, segment)
 }
 
-/// Puts a value at a key of the map of a key in a segment, and returns true if that is new.
+/// Puts a value at a key of the map of a key in a segment, and returns true if that is new. It looks the map up once if
+/// that is from `i64` to `i64`.
 fn put_pair(
     segment: &mut Segment,
     key: &Key,
@@ -197,28 +198,16 @@ fn put_pair(
     ensures refused { OnErr result (segment.new ≡ segment.old) }
 {
     match (at, value) {
-        (ScalarValue::I64(number), ScalarValue::I64(new)) => put_numbers(segment, key, number, new),
-        _ => segment_values::put_pair(segment, key, &at, &value),
-    }
-}
-
-/// Puts a number at a number in the map of a key in a segment, and returns true if that is new. It looks the map up
-/// once if that is from `i64` to `i64`.
-#[inline(always)]
-fn put_numbers(segment: &mut Segment, key: &Key, at: i64, value: i64) -> Result<bool, Refusal>
-    ensures step { TakesStep segment.old segment.new (Put (key_seen key.now) (Integer at) (Integer value))
-        (truth_answer result) }
-    ensures refused { OnErr result (segment.new ≡ segment.old) }
-{
-    match segment.map_put::<i64, i64, Key>(key, at, value) {
-        Ok(is_new) => Ok(is_new),
-        Err(refusal) => match refusal {
-            Refusal::WrongKind => {
-                let (new_key, new_value) = (ScalarValue::I64(at), ScalarValue::I64(value));
-                segment_values::put_pair(segment, key, &new_key, &new_value)
+        (ScalarValue::I64(number), ScalarValue::I64(new)) => {
+            match segment.map_put::<i64, i64, Key>(key, number, new) {
+                Ok(is_new) => Ok(is_new),
+                Err(refusal) => match refusal {
+                    Refusal::WrongKind => segment_values::put_pair(segment, key, &at, &value),
+                    _ => Err(refusal),
+                },
             }
-            _ => Err(refusal),
-        },
+        }
+        _ => segment_values::put_pair(segment, key, &at, &value),
     }
 }
 

@@ -1,6 +1,6 @@
 -- What is not refused by its kind is done.
-use Rattle.segment_c.proofs.maps.put_numbers.Goals as goal
-use Rattle.std.proofs.Common.{◌≡◌, ℤ, subst, w64}
+use Rattle.segment_c.proofs.maps.put_pair.Goals as goal
+use Rattle.std.proofs.Common.{◌≡◌, ℤ, rules, subst, w64}
 use Rattle.std.proofs.lemmas.Int.{to_z-of_z}
 use Rattle.seg_types.specs.{Commands.Integer, Commands.Put, Keys.key_seen, declared.kinds.Kind.TheVariants.Map}
 use Rattle.seg_types.specs.declared.kinds.ScalarKind.TheVariants.{I64}
@@ -21,11 +21,17 @@ put-of_numbers old new key at value its_at its_value a not e f m =
     (subst (λ (z : ℤ). TakesStepOfKind old new key (Map I64 I64) (Put key (Integer its_at) (Integer z)) a) f m))
 
 pub returns-in-Ok-clause-step : goal.returns-in-Ok-clause-step
-returns-in-Ok-clause-step c = put-of_numbers c.args.segment.now c.map_put.new.self (key_seen c.args.key.now) c.args.at
-    c.args.value _ _ (Boolean c.in-Ok.is_new) (λ e. cc) (to_z-of_z w64 c.args.at c.ranges.at)
-    (to_z-of_z w64 c.args.value c.ranges.value) c.in-Ok.ensures.step
+returns-in-Ok-clause-step c =
+    let it = c.in-I64-I64 in
+    let step = put-of_numbers c.args.segment.now c.map_put.new.self (key_seen c.args.key.now) it.number it.new _ _
+    (Boolean c.in-Ok.is_new) (λ e. cc) (to_z-of_z w64 it.number (search rules)) (to_z-of_z w64 it.new (search rules))
+    c.in-Ok.ensures.step in
+    search (step, rules)
 
-pub returns-in_default-clause-step : goal.returns-in_default-clause-step
-returns-in_default-clause-step c = put-of_numbers c.args.segment.now c.map_put.new.self (key_seen c.args.key.now)
-    c.args.at c.args.value _ _ (Refused c.in-Err.refusal) (λ e. c.in_default.not-WrongKind (cc))
-    (to_z-of_z w64 c.args.at c.ranges.at) (to_z-of_z w64 c.args.value c.ranges.value) c.in-Err.ensures.step
+pub returns-in_default-refusal-clause-step : goal.returns-in_default-refusal-clause-step
+returns-in_default-refusal-clause-step c =
+    let it = c.in-I64-I64 in
+    let step = put-of_numbers c.args.segment.now c.map_put.new.self (key_seen c.args.key.now) it.number it.new _ _
+    (Refused c.in-Err.refusal) (λ e. c.in_default-refusal.not-WrongKind (cc))
+    (to_z-of_z w64 it.number (search rules)) (to_z-of_z w64 it.new (search rules)) c.in-Err.ensures.step in
+    search (step, rules)

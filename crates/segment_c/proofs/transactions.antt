@@ -1,4 +1,3 @@
--- Codes of a segment that grows or moves (`Resize.grown_code`) or is not opened, and the rooms of regions.
-pub mod Rooms
-pub mod Resize
+-- Codes of an image that is not opened (`Images.why_refused`), and the rooms of regions.
 pub mod Images
+pub mod Rooms

@@ -1,14 +1,13 @@
 -- What the calls do that change the object of a key, and answer a code alone.
-use Rattle.std.specs.Prelude.{◌≡◌, ◌≤◌, ℕ, ◌∷◌, [], map, OnErr, Option, Result}
+use Rattle.std.specs.Prelude.{◌≡◌, ◌≤◌, ℕ, ◌∷◌, [], map, Option}
 use Rattle.seg_types.specs.Commands.{Append as AppendTo, Assign, Clear as ClearAll, Erase as EraseAt, Insert, Pop, Push}
 use Rattle.seg_types.specs.{Commands.Quoted, Commands.Set, Commands.Shrink, Names.Key}
 use Rattle.seg_types.specs.declared.kinds.Kind.TheVariants.{String as StringKind, Strings as StringsKind}
-use Rattle.seg_types.specs.declared.refusals.Refusal.{Refusal}
 use Rattle.segment_c.specs.{Calls.UnchangedOnCode as KeepsHandle, declared.changes.ObjectChange.ObjectChange}
 use Rattle.segment_c.specs.declared.changes.ObjectChange.TheVariants.{Append, AssignText, AssignTexts, Clear, Erase}
 use Rattle.segment_c.specs.declared.changes.ObjectChange.TheVariants.{InsertText, PopText, PushText, SetText, Trim}
 use Rattle.segment_manager.specs.{Answers.Answer, Answers.refusal_of, containers.TextLists.LeadsOnOfKind}
-use Rattle.segment_manager.specs.State.{TakesStep, TakesStepOfKind, UnchangedIfRefused, SegmentState}
+use Rattle.segment_manager.specs.State.{TakesStep, TakesStepOfKind, SegmentState}
 
 -- a change is this step of the machine
 abbrev pub ChangesObject : ObjectChange → Key → SegmentState → SegmentState → Answer → Type 0
@@ -27,14 +26,7 @@ ChangesObject (InsertText index text) key s t answer =
 ChangesObject (AssignTexts texts) key s t answer =
     TakesStepOfKind s t key StringsKind (Assign key (map Quoted (map (λ text. text.now) texts.now))) answer
 
--- texts that find no room can leave other bytes in gaps; else what is refused changes nothing: of the states
-abbrev pub LeavesOld : ObjectChange → SegmentState → SegmentState → Result (Unit {0}) Refusal → Type 0
-LeavesOld (PushText text) old new r = UnchangedIfRefused old new r
-LeavesOld (InsertText index text) old new r = UnchangedIfRefused old new r
-LeavesOld (AssignTexts texts) old new r = UnchangedIfRefused old new r
-LeavesOld what old new r = OnErr r (new ≡ old)
-
--- the call leaves the handle as it was
+-- the call leaves the handle as it was; texts that find no room can leave other bytes in gaps
 abbrev pub LeavesHandle : ObjectChange → ℕ → Option SegmentState → Option SegmentState → Type 0
 LeavesHandle (PushText text) code old new = KeepsHandle code old new
 LeavesHandle (InsertText index text) code old new = KeepsHandle code old new

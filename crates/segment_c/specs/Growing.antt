@@ -1,9 +1,7 @@
 -- Segments that become longer, in a larger region if their own has no room: what the call owes.
-use Rattle.std.specs.Prelude.{◌≡◌, ◌⊎◌, ℕ, None, Some}
+use Rattle.std.specs.Prelude.{◌≡◌, ◌⊎◌, ℕ, None}
 use Rattle.segment_manager.specs.{Directory.Directory, State.SegmentState}
 use Rattle.grow_shrink.specs.{LargerRegion.IsTooLongFor, LargerRegion.growth_reason}
-use Rattle.grow_shrink.specs.declared.larger_region.GrowOrMoveError.{GrowOrMoveError}
-use Rattle.grow_shrink.specs.declared.larger_region.GrowOrMoveError.TheVariants.{Growth, OutOfMemory}
 use Rattle.segment_c.specs.Resizing.{size_code}
 
 -- the code is that of the refusal, if there is one in a region with room; or the segment's region has none, and there
@@ -12,8 +10,3 @@ abbrev pub IsGrowthCode : SegmentState → ℕ → ℕ → Directory → Type 0
 IsGrowthCode s extra code d =
     (code ≡ size_code (growth_reason s.mode d.size extra))
     ⊎ ((code ≡ 26) × (growth_reason s.mode d.size extra ≡ None) × IsTooLongFor s extra)
-
--- the code by which a segment does not become longer, though it may move
-abbrev pub growing_code : GrowOrMoveError → ℕ
-growing_code (Growth reason) = size_code (Some reason)
-growing_code (OutOfMemory refusal) = 26

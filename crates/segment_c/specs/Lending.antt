@@ -4,7 +4,7 @@ use Rattle.raw_region.specs.Memory.{part, whole}
 use Rattle.segment_manager.specs.{declared.modes.Mode.Mode, State.IsSegment, State.SegmentState}
 use Rattle.segment_c.specs.{Calls.HoldsSegment, Calls.RefusesArgument, Images.mode_of, Images.mode_wrong}
 use Rattle.segment_c.specs.{Marked.PlacesSegment, Opening.IsWhyNotOpened, Opening.capacity_wrong, Passed.or_else}
-use Rattle.segment_c.specs.declared.segment_slot.SegmentSlot.{SegmentSlot}
+use Rattle.segment_c.specs.declared.slot.Slot.{Slot}
 
 -- the memory may be a region, and an image of this many bytes fits into it
 abbrev pub memory_wrong : ℕ → ℕ → ℕ
@@ -19,7 +19,7 @@ pub record IsOpenedHere (memory : List ℕ) (len : ℕ) (mode : Mode) (s : Segme
 
 -- a call that opens the image at the front of lent memory in place: the handle and the memory are as they were unless
 -- the code is 0, and nothing is left of the memory then
-pub record OpensHere (memory rest : List ℕ) (len mode code : ℕ) (old new : SegmentSlot) : Type 0 where
+pub record OpensHere (memory rest : List ℕ) (len mode code : ℕ) (old new : Slot) : Type 0 where
   pub stop : RefusesArgument (or_else (memory_wrong (length memory) len) (mode_wrong mode)) code old.segment.value
       new.segment.value
   pub opening : code ≡ 0 → HoldsSegment new.segment.value (λ t. IsOpenedHere memory len (mode_of mode) t)

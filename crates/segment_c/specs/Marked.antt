@@ -1,7 +1,8 @@
 -- What is noted of the segment of a handle: how often it was changed, whether C lent its memory, and whether C may
 -- write elements where they stand.
-use Rattle.std.specs.Prelude.{◌≡◌, ◌≤◌, ◌⊎◌, ℕ, ◌+◌, ◌%◌, Bool, false, true}
-use Rattle.segment_c.specs.declared.segment_slot.Marks.{Marks}
+use Rattle.std.specs.Prelude.{◌≡◌, ◌≤◌, ◌⊎◌, ℕ, ◌+◌, ◌%◌, Bool, Option, Some, false, true}
+use Rattle.segment_c.specs.declared.slot.Marks.{Marks}
+use Rattle.segment_manager.specs.State.{SegmentState}
 
 -- the counter has risen, or begins anew, and no element that C was told of is where it was told
 abbrev pub raised : Marks → Marks
@@ -30,3 +31,10 @@ pub record PlacesSegment (code : ℕ) (old new : Marks) (is_lent : Bool) : Type 
 pub record LendsRange (code : ℕ) (old new : Marks) : Type 0 where
   pub told : code ≡ 0 → new ≡ shared old
   pub kept : 1 ≤ code → new ≡ old
+
+-- a segment stands in a handle at the end of a call, whose code is this, and the marks are these
+pub record PutsSegment (code its : ℕ) (after : Option SegmentState) (s : SegmentState) (marks its_marks : Marks) :
+    Type 0 where
+  pub effect : after ≡ Some s
+  pub code_is : code ≡ its
+  pub marks_are : marks ≡ its_marks

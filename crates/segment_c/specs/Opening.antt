@@ -7,7 +7,7 @@ use Rattle.image_check.specs.declared.errors.OpenError.{OpenError}
 use Rattle.image_check.specs.declared.errors.OpenError.TheVariants.{Image, RegionTooSmall, OutOfMemory, ReadFault}
 use Rattle.image_check.specs.{declared.classes.ImageClass.ImageClass, Classes.class_of, Classes.number_of}
 use Rattle.segment_c.specs.{Calls.HoldsSegment, Calls.RefusesArgument, Images.mode_of, Images.mode_wrong}
-use Rattle.segment_c.specs.{Marked.PlacesSegment, Passed.or_else, declared.segment_slot.SegmentSlot.SegmentSlot}
+use Rattle.segment_c.specs.{Marked.PlacesSegment, Passed.or_else, declared.slot.Slot.Slot}
 use Rattle.image_check.specs.{EarlyTests.has_front, EarlyTests.size_word, Verdicts.Shows}
 
 -- a region has a multiple of 16 bytes, from 16 to 2 ^ 40
@@ -65,7 +65,7 @@ abbrev pub size_said : List ℕ → ℕ
 size_said image = if nat_le 24 (length image) && has_front current image then size_word image else 0
 
 -- a call that opens an image in a region of its own: the handle is as it was unless the code is 0
-pub record OpensInHandle (image : List ℕ) (capacity mode code : ℕ) (old new : SegmentSlot) : Type 0 where
+pub record OpensInHandle (image : List ℕ) (capacity mode code : ℕ) (old new : Slot) : Type 0 where
   pub stop : RefusesArgument (or_else (capacity_wrong capacity) (mode_wrong mode)) code old.segment.value
       new.segment.value
   pub opening : code ≡ 0 → HoldsSegment new.segment.value (λ t. IsImageOpened image capacity (mode_of mode) t)

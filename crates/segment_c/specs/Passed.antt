@@ -7,7 +7,7 @@ use Rattle.seg_types.specs.declared.kinds.ScalarKind.TheVariants.{Bool as BoolKi
 use Rattle.segment_manager.specs.Answers.{Answer, Done, Element}
 use Rattle.seg_types.specs.Kinds.{code_of, is_value, kind_of_code, scalar_of_code, truth_number}
 use Rattle.seg_types.specs.Names.{Key, ByName, ByKind, ByHandle, NoKey, is_text_name}
-use Rattle.segment_c.specs.declared.keys.ObjectKey.{ObjectKey}
+use Rattle.segment_c.specs.declared.keys.CKey.{CKey}
 use Rattle.segment_c.specs.{declared.values.CScalar.CScalar, declared.slices.CScalars.CScalars}
 
 -- ---- the first code of some that is not 0
@@ -30,7 +30,7 @@ kind_key None = NoKey
 kind_key (Some kind) = ByKind kind
 
 -- the code that refuses the key of an object that must be there, or 0
-unfoldable pub key_wrong : ObjectKey → ℕ
+unfoldable pub key_wrong : CKey → ℕ
 key_wrong k =
     if k.how == 0 then name_wrong k.name.now
     else if k.how == 1 then kind_wrong k.kind
@@ -39,14 +39,14 @@ key_wrong k =
     else 17
 
 -- the key that a key of C stands for
-unfoldable pub key_of : ObjectKey → Key
+unfoldable pub key_of : CKey → Key
 key_of k =
     if k.how == 0 then ByName k.name.now
     else if k.how == 1 then kind_key (kind_of_code k.kind)
     else ByHandle k.handle
 
 -- the key of an entry under which an object of a kind is found or made
-unfoldable pub entry_wrong : ObjectKey → Kind → ℕ
+unfoldable pub entry_wrong : CKey → Kind → ℕ
 entry_wrong k kind =
     if k.how == 0 then name_wrong k.name.now
     else if k.how == 1 then (if k.kind == code_of kind then 0 else 19)
@@ -54,15 +54,15 @@ entry_wrong k kind =
     else 17
 
 -- the key under which an object of a kind is found or made
-unfoldable pub entry_of : ObjectKey → Kind → Key
+unfoldable pub entry_of : CKey → Kind → Key
 entry_of k kind = if k.how == 0 then ByName k.name.now else ByKind kind
 
 -- the key under which a new object of a kind is made
-abbrev pub new_wrong : ObjectKey → Kind → ℕ
+abbrev pub new_wrong : CKey → Kind → ℕ
 new_wrong k kind = if k.how == 3 then 0 else entry_wrong k kind
 
 -- the key under which an object of a kind is made
-abbrev pub new_of : ObjectKey → Kind → Key
+abbrev pub new_of : CKey → Kind → Key
 new_of k kind = if k.how == 3 then NoKey else entry_of k kind
 
 -- ---- values

@@ -8,13 +8,13 @@ use Rattle.seg_types.specs.Refusals.{refusal_number}
 use Rattle.seg_types.specs.declared.kinds.Kind.TheVariants.{Map, Scalar, String, Strings, Vector}
 use Rattle.seg_map.specs.{Numbers.NumberPair, Places.item_of}
 use Rattle.segment_manager.specs.{Calls.kind_at, Calls.scalar_reply, Directory.Directory, State.AnswersWith}
-use Rattle.segment_manager.specs.{containers.Maps.pair_above, State.DenotesCurrent}
+use Rattle.segment_manager.specs.containers.Maps.{pair_above}
 use Rattle.segment_manager.specs.Answers.{Answer, TextElement, Refused}
 use Rattle.segment_manager.specs.containers.Walks.{KindedPair, first_of, item_of_kinds, item_seen, pairs_at}
 use Rattle.segment_values.specs.Ranges.{range_at}
-use Rattle.segment_c.specs.{declared.keys.ObjectKey.ObjectKey, declared.values.CScalar.CScalar, Images.CopiesOut}
-use Rattle.segment_c.specs.{Codes.answer_for, Handles.AsksHandle, Handles.ReadsHandle}
-use Rattle.segment_c.specs.declared.segment_slot.SegmentSlot.{SegmentSlot}
+use Rattle.segment_c.specs.{declared.keys.CKey.CKey, declared.values.CScalar.CScalar, Images.CopiesOut}
+use Rattle.segment_c.specs.{Codes.answer_for, Handles.AsksHandle, Handles.ReadsDirectory}
+use Rattle.segment_c.specs.declared.slot.Slot.{Slot}
 use Rattle.segment_c.specs.Passed.{element_in, key_of, key_wrong, scalar_in}
 
 -- the code is 0 and this holds, or it is that of the refusal
@@ -46,10 +46,10 @@ CopiesAnswer old new len code answer = ⊥
 -- a closed handle are codes; the row has the numbers of those elements then, as they are seen, or the call is refused;
 -- and no more changes
 pub record ReadsRange {X : Type 0} (seen : X
-    → ℤ) (kind : ScalarKind) (key : ObjectKey) (first : ℕ) (old new : List X) (code : ℕ)
-    (before after : SegmentSlot) : Type 0 where
-  pub read : ReadsHandle (key_wrong key) code before after (λ s. (d : Directory) → DenotesCurrent s.cut.bytes d
-      → IsCoded (λ zs. map seen new ≡ zs) code (range_at d (key_of key) kind first (length old)))
+    → ℤ) (kind : ScalarKind) (key : CKey) (first : ℕ) (old new : List X) (code : ℕ)
+    (before after : Slot) : Type 0 where
+  pub read : ReadsDirectory (key_wrong key) code before after (λ d.
+      IsCoded (λ zs. map seen new ≡ zs) code (range_at d (key_of key) kind first (length old)))
   pub results : 1 ≤ code → new ≡ old
 
 -- ---- the last element
@@ -119,12 +119,19 @@ TellsPair at value code (Ok None) = code ≡ 10
 TellsPair at value code (Ok (Some (x, y))) = (code ≡ 0) × (scalar_in at ≡ Some x) × (scalar_in value ≡ Some y)
 TellsPair at value code (Err why) = code ≡ refusal_number why
 
+-- a call reads the pair that the directory says, which goes out, and changes nothing
+pub record AsksPair (wrong : ℕ) (pair : Directory → Result (Option KindedPair) Refusal) (code : ℕ)
+    (before after : Slot) (at at' value value' : CScalar) : Type 0
+  where
+    pub read : ReadsDirectory wrong code before after (λ d. TellsPair at' value' code (pair d))
+    pub outputs_on_error : 1 ≤ code → (at' ≡ at) × (value' ≡ value)
+
 -- a pair goes out, as the code has it
 abbrev pub TellsPairOf : CScalar → CScalar → ℕ → Option (ScalarValue × ScalarValue) → Type 0
 TellsPairOf at value code pair = TellsPair at value code (Ok (option_map item_seen pair))
 
 -- a call reads the element at an index of the object of a key, and says it if the code is 0
-pub record TellsElement (key : ObjectKey) (index code : ℕ) (before after : SegmentSlot) (old new : CScalar) : Type 0
+pub record TellsElement (key : CKey) (index code : ℕ) (before after : Slot) (old new : CScalar) : Type 0
   where
     pub call : AsksHandle (key_wrong key) code before after (λ s t. AnswersWith s (λ d.
         scalar_reply s.mode d (key_of key) (Get (key_of key) index)) (answer_for code (element_in new)))

@@ -7,8 +7,8 @@ use Rattle.segment_manager.specs.containers.ElementRuns.{run_at, spelled_at}
 use Rattle.segment_manager.specs.{declared.modes.Mode.Mode, Directory.Directory}
 use Rattle.segment_manager.specs.{State.DenotesCurrent, State.SegmentState, Step.is_read_only}
 use Rattle.segment_manager.specs.declared.containers.element_runs.ElementRun.{ElementRun}
-use Rattle.segment_c.specs.{Calls.HoldsSegment, Handles.ReadsHandle, Passed.scalar_kind_in, Reads.IsCoded}
-use Rattle.segment_c.specs.{declared.segment_slot.SegmentSlot.SegmentSlot, declared.views.CView.CView}
+use Rattle.segment_c.specs.{Calls.HoldsSegment, Handles.ReadsDirectory, Passed.scalar_kind_in, Reads.IsCoded}
+use Rattle.segment_c.specs.{declared.slot.Slot.Slot, declared.views.CView.CView}
 
 -- where the run begins, how many elements it has, and of which kind
 abbrev pub IsView : CView → ElementRun → Type 0
@@ -26,9 +26,8 @@ abbrev pub writable : Mode → Result ElementRun Refusal → Result ElementRun R
 writable mode run = if is_read_only mode then Err ReadOnly else run
 
 -- a call says where the elements of the object of a key stand, for as long as the counter of changes stays
-pub record TellsView (wrong : ℕ) (key : Key) (code : ℕ) (before after : SegmentSlot) (old new : CView) : Type 0 where
-  pub read : ReadsHandle wrong code before after (λ s. (d : Directory) → DenotesCurrent s.cut.bytes d
-      → IsCoded (IsView new) code (run_at d key))
+pub record TellsView (wrong : ℕ) (key : Key) (code : ℕ) (before after : Slot) (old new : CView) : Type 0 where
+  pub read : ReadsDirectory wrong code before after (λ d. IsCoded (IsView new) code (run_at d key))
   pub bytes : code ≡ 0 → HoldsSegment before.segment.value (λ s. HasView s key new)
   pub current : code ≡ 0 → new.changes ≡ before.marks.changes
   pub outputs_on_error : 1 ≤ code → new ≡ old

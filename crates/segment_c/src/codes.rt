@@ -3,13 +3,14 @@ ghost use Rattle.std.specs.Prelude.{◌≡◌, ◌≤◌, IsTrue, MatchResult};
 ghost use Rattle.std.specs.declared.option.Option.TheVariants.{Some as Held};
 ghost use Rattle.raw_region.specs.Memory.{whole};
 ghost use Rattle.seg_types.specs.Refusals.{refusal_number};
-ghost use Rattle.segment_c.specs.{Codes.answer_for, Codes.is_answer, Marked.raised, Passed.element_in};
+ghost use Rattle.segment_c.specs.Codes.{answer_for, is_answer};
+ghost use Rattle.segment_c.specs.{Handles.PutsBack, Marked.raised, Passed.element_in};
 ghost use Rattle.segment_manager.specs.Answers.{Answer, Done, Found, Made, Refused, Boolean};
 ghost use Rattle.segment_manager.specs.State.{done_answer, handle_answer, scalar_answer, truth_answer};
 ghost use Rattle.segment_manager.specs.objects.Found.{found_answer, found_object_answer};
 ghost use Rattle.segment_manager.specs.containers.Maps.{any_value_answer};
 
-use crate::segment_slot::{SegmentSlot, put, put_changed};
+use crate::slot::{Slot, put, put_changed};
 use crate::values::CScalar;
 use image_check::MemoryFault;
 use raw_region::RawRegion;
@@ -113,6 +114,8 @@ macro_rules! code_for {
     };
 }
 
+pub(crate) use code_for;
+
 /// Returns the code of a refusal, which is its number.
 pub fn code_of(why: Refusal) -> u32
     ensures outcome { (a : Answer) → answer_for result a ≡ Refused why }
@@ -133,7 +136,7 @@ pub fn code_of(why: Refusal) -> u32
 /// Returns the code of a command that is done, or refused. This and those below put the segment back into the handle,
 /// and those whose command may change it count that.
 #[inline(always)]
-pub fn done(done: Result<(), Refusal>, h: &mut SegmentSlot, segment: Box<Segment>) -> u32
+pub fn done(done: Result<(), Refusal>, h: &mut Slot, segment: Box<Segment>) -> u32
     ensures outcome { answer_for result Done ≡ done_answer done }
     ensures answer { IsTrue (is_answer result) }
     ensures effect { h.new.segment.value ≡ Held segment.value }
@@ -147,14 +150,11 @@ pub fn done(done: Result<(), Refusal>, h: &mut SegmentSlot, segment: Box<Segment
 pub fn made(
     made: Result<u64, Refusal>,
     handle: &mut u64,
-    h: &mut SegmentSlot,
+    h: &mut Slot,
     segment: Box<Segment>,
 ) -> u32
-    ensures outcome { answer_for result (Made handle.new) ≡ handle_answer made }
-    ensures answer { IsTrue (is_answer result) }
-    ensures unchanged_on_error { 1 ≤ result → handle.new ≡ handle.old }
-    ensures effect { h.new.segment.value ≡ Held segment.value }
-    ensures marks { h.new.marks ≡ raised h.old.marks }
+    ensures { PutsBack (Made handle.new) (handle_answer made) (handle.new ≡ handle.old) result segment.value h.new
+        (raised h.old.marks) }
 {
     let code = code_for!(made, at => *handle = at);
     put_changed(code, h, segment)
@@ -164,14 +164,11 @@ pub fn made(
 pub fn truth(
     truth: Result<bool, Refusal>,
     holds: &mut bool,
-    h: &mut SegmentSlot,
+    h: &mut Slot,
     segment: Box<Segment>,
 ) -> u32
-    ensures outcome { answer_for result (Boolean holds.new) ≡ truth_answer truth }
-    ensures answer { IsTrue (is_answer result) }
-    ensures unchanged_on_error { 1 ≤ result → holds.new ≡ holds.old }
-    ensures effect { h.new.segment.value ≡ Held segment.value }
-    ensures marks { h.new.marks ≡ raised h.old.marks }
+    ensures { PutsBack (Boolean holds.new) (truth_answer truth) (holds.new ≡ holds.old) result segment.value h.new
+        (raised h.old.marks) }
 {
     let code = code_for!(truth, it => *holds = it);
     put_changed(code, h, segment)
@@ -192,14 +189,11 @@ pub fn found(
     found: Result<(u64, u32), Refusal>,
     handle: &mut u64,
     count: &mut u32,
-    h: &mut SegmentSlot,
+    h: &mut Slot,
     segment: Box<Segment>,
 ) -> u32
-    ensures outcome { answer_for result (Found handle.new count.new) ≡ found_object_answer found }
-    ensures answer { IsTrue (is_answer result) }
-    ensures unchanged_on_error { 1 ≤ result → (handle.new ≡ handle.old) × (count.new ≡ count.old) }
-    ensures effect { h.new.segment.value ≡ Held segment.value }
-    ensures marks { h.new.marks ≡ raised h.old.marks }
+    ensures { PutsBack (Found handle.new count.new) (found_object_answer found)
+        ((handle.new ≡ handle.old) × (count.new ≡ count.old)) result segment.value h.new (raised h.old.marks) }
 {
     let code = code_for!(found, (at, many) => { *handle = at; *count = many; });
     put_changed(code, h, segment)
@@ -211,14 +205,11 @@ pub fn found_or_absent(
     found: Result<Option<(u64, u32)>, Refusal>,
     handle: &mut u64,
     count: &mut u32,
-    h: &mut SegmentSlot,
+    h: &mut Slot,
     segment: Box<Segment>,
 ) -> u32
-    ensures outcome { answer_for result (Found handle.new count.new) ≡ found_answer found }
-    ensures answer { IsTrue (is_answer result) }
-    ensures unchanged_on_error { 1 ≤ result → (handle.new ≡ handle.old) × (count.new ≡ count.old) }
-    ensures effect { h.new.segment.value ≡ Held segment.value }
-    ensures marks { h.new.marks ≡ h.old.marks }
+    ensures { PutsBack (Found handle.new count.new) (found_answer found)
+        ((handle.new ≡ handle.old) × (count.new ≡ count.old)) result segment.value h.new h.old.marks }
 {
     let code = code_for!(found, Some((at, many)) => { *handle = at; *count = many; });
     put(code, h, segment)
@@ -228,14 +219,11 @@ pub fn found_or_absent(
 pub fn value_found(
     found: Result<Option<ScalarValue>, Refusal>,
     value: &mut CScalar,
-    h: &mut SegmentSlot,
+    h: &mut Slot,
     segment: Box<Segment>,
 ) -> u32
-    ensures outcome { answer_for result (element_in value.new) ≡ any_value_answer found }
-    ensures answer { IsTrue (is_answer result) }
-    ensures unchanged_on_error { 1 ≤ result → value.new ≡ value.old }
-    ensures effect { h.new.segment.value ≡ Held segment.value }
-    ensures marks { h.new.marks ≡ h.old.marks }
+    ensures { PutsBack (element_in value.new) (any_value_answer found) (value.new ≡ value.old) result segment.value
+        h.new h.old.marks }
 {
     let code = code_for!(found, Some(it) => *value = CScalar::of(it));
     put(code, h, segment)

@@ -1,102 +1,76 @@
 //! Elements of objects of scalars, of vectors and of strings.
 ghost use Rattle.std.specs.Prelude.{◌≡◌, ◌≤◌, OnErr, false, true};
-ghost use Rattle.seg_types.specs.Values.{kind_of_scalar};
 ghost use Rattle.seg_types.specs.Commands.{Erase, Insert, Integer, Pop, Push, Set};
-ghost use Rattle.seg_types.specs.{Keys.key_seen, Names.ByHandle, Written.literal_seen};
 ghost use Rattle.seg_types.specs.declared.kinds.Kind.TheVariants.{Strings as StringsKind, Vector as VectorOf};
+ghost use Rattle.seg_types.specs.{Keys.key_seen, Names.ByHandle, Values.kind_of_scalar, Written.literal_seen};
 ghost use Rattle.segment_c.specs.{Codes.answer_for, Handles.ChangesHandle, Handles.DoesCommand};
 ghost use Rattle.segment_c.specs.Passed.{element_in, key_of, key_wrong, literal_in, or_else, value_wrong};
 ghost use Rattle.segment_c.specs.Reads.{TellsElement, vector_kind_at};
 ghost use Rattle.segment_manager.specs.{Answers.Done, Answers.refusal_of, Step.step_of_kind};
 ghost use Rattle.segment_manager.specs.State.{AnswersWith, TakesStep, TakesStepOfKind, Transitions, done_answer};
 ghost use Rattle.segment_manager.specs.{State.scalar_answer, containers.TextLists.LeadsOnOfKind};
-ghost use Rattle.segment_values.specs.Changes.{command_at};
 
 use crate::calls::{enter, enter_with, passed};
 use crate::changes::{ObjectChange, make_change};
 use crate::codes::{DONE, done, element_out};
-use crate::keys::ObjectKey;
-use crate::segment_slot::{SegmentSlot, put, put_taken_back, take};
+use crate::keys::CKey;
+use crate::slot::{Slot, put, put_taken_back, take};
 use crate::values::CScalar;
 use seg_types::{Handle, Key, Kind, Refusal, ScalarKind, ScalarValue, by_kind, by_value};
 use segment_manager::unchecked::object_here;
 use segment_manager::{Segment, is_remembered, locate, push_within};
-use segment_values::{InsertSpot, get, get_element};
-use std::alloc::Global;
+use segment_values::{InsertSpot, add, get, get_element};
 
 /// Returns the element at `index` in the object of a key: of scalars, of a vector of scalars, or of a string, which has
 /// bytes.
 #[unsafe(no_mangle)]
-pub extern "C" fn zx_get(
-    alloc: Global,
-    h: &mut SegmentSlot,
-    key: &ObjectKey<'_>,
-    index: u64,
-    value: &mut CScalar,
-) -> u32
+pub extern "C" fn zx_get(h: &mut Slot, key: &CKey, index: u64, value: &mut CScalar) -> u32
     ensures { TellsElement key.now index result h.old h.new value.old value.new }
 {
     let Some(handle) = key.as_handle() else {
-        return get_any(alloc, h, key, index, value);
+        return get_any(h, key, index, value);
     };
-    let segment = passed!(take(alloc, h));
+    let segment = passed!(take(h));
     if is_remembered(&segment, handle) {
         let object = object_here(&segment, handle);
         let answer = get_element(&segment, object, index);
         return put_taken_back(element_out(answer, value), h, segment);
     }
     put_taken_back(DONE, h, segment);
-    get_any(alloc, h, key, index, value)
+    get_any(h, key, index, value)
 }
 
 /// Returns the element at `index` in the object of a key, for any form of key.
 #[inline(never)]
-fn get_any(
-    alloc: Global,
-    h: &mut SegmentSlot,
-    key: &ObjectKey<'_>,
-    index: u64,
-    value: &mut CScalar,
-) -> u32
+fn get_any(h: &mut Slot, key: &CKey, index: u64, value: &mut CScalar) -> u32
     ensures { TellsElement key.now index result h.old h.new value.old value.new }
 {
-    let (which, segment) = passed!(enter(alloc, h, key));
+    let (which, segment) = passed!(enter(h, key));
     let answer = get(&segment, &which, index);
     put_taken_back(element_out(answer, value), h, segment)
 }
 
 /// Makes a value the element at `index` in the object of a key: of scalars, of a vector of scalars, or of a string.
 #[unsafe(no_mangle)]
-pub extern "C" fn zx_set(
-    alloc: Global,
-    h: &mut SegmentSlot,
-    key: &ObjectKey<'_>,
-    index: u64,
-    value: &CScalar,
-) -> u32
+pub extern "C" fn zx_set(h: &mut Slot, key: &CKey, index: u64, value: &CScalar) -> u32
     ensures call { DoesCommand (or_else (key_wrong key.now) (value_wrong value.now))
         (Set (key_of key.now) index (literal_in value.now)) result h.old h.new }
 {
-    let (which, new, mut segment) = passed!(enter_with(alloc, h, key, value));
+    let (which, new, mut segment) = passed!(enter_with(h, key, value));
     let answer = segment_values::set(&mut segment, &which, index, &new, &mut ());
     done(answer, h, segment)
 }
 
 /// Puts a value after the last element of the vector of a key.
 #[unsafe(no_mangle)]
-pub extern "C" fn zx_push(
-    alloc: Global,
-    h: &mut SegmentSlot,
-    key: &ObjectKey<'_>,
-    value: &CScalar,
-) -> u32
+pub extern "C" fn zx_push(h: &mut Slot, key: &CKey, value: &CScalar) -> u32
     ensures call { DoesCommand (or_else (key_wrong key.now) (value_wrong value.now))
         (Push (key_of key.now) (literal_in value.now)) result h.old h.new }
 {
     let (Some(handle), Some(number)) = (key.as_handle(), value.as_i64()) else {
-        return push_any(alloc, h, key, value);
+        return push_any(h, key, value);
     };
-    zx_push_i64(alloc, h, handle, number)
+    zx_push_i64(h, handle, number)
 }
 
 /// Puts a number after the last element of the vector of a handle, which can be any number, as `zx_push` does. It packs
@@ -104,17 +78,17 @@ pub extern "C" fn zx_push(
 /// push stands once.
 #[inline(never)]
 #[unsafe(no_mangle)]
-pub extern "C" fn zx_push_i64(alloc: Global, h: &mut SegmentSlot, handle: u64, number: i64) -> u32
+pub extern "C" fn zx_push_i64(h: &mut Slot, handle: u64, number: i64) -> u32
     ensures call { DoesCommand 0 (Push (ByHandle handle) (Integer number)) result h.old h.new }
 {
-    let mut segment = passed!(take(alloc, h));
+    let mut segment = passed!(take(h));
     if push_here(&mut segment, handle, number) {
         h.marks.raise();
         return put_taken_back(DONE, h, segment);
     }
     put_taken_back(DONE, h, segment);
     let value = CScalar::of(ScalarValue::I64(number));
-    push_any(alloc, h, &ObjectKey::of_handle(handle), &value)
+    push_any(h, &CKey::of_handle(handle), &value)
 }
 
 /// Puts a number after the last element of the vector of a handle, and returns true, if the handle is remembered and
@@ -129,11 +103,11 @@ fn push_here(segment: &mut Segment, handle: Handle, number: i64) -> bool
 
 /// Puts a value after the last element of the vector of a key, for any form of key and any value.
 #[inline(never)]
-fn push_any(alloc: Global, h: &mut SegmentSlot, key: &ObjectKey<'_>, value: &CScalar) -> u32
+fn push_any(h: &mut Slot, key: &CKey, value: &CScalar) -> u32
     ensures call { DoesCommand (or_else (key_wrong key.now) (value_wrong value.now))
         (Push (key_of key.now) (literal_in value.now)) result h.old h.new }
 {
-    let (which, new, mut segment) = passed!(enter_with(alloc, h, key, value));
+    let (which, new, mut segment) = passed!(enter_with(h, key, value));
     let answer = push(&mut segment, &which, new);
     done(answer, h, segment)
 }
@@ -148,7 +122,7 @@ fn push(segment: &mut Segment, key: &Key, value: ScalarValue) -> Result<(), Refu
     match push_own(segment, key, value) {
         Ok(()) => Ok(()),
         Err(why) => match why {
-            Refusal::WrongKind => add(segment, key, InsertSpot::End, value),
+            Refusal::WrongKind => add(segment, key, InsertSpot::End, &value, &mut ()),
             _ => Err(why),
         },
     }
@@ -166,62 +140,33 @@ fn push_own(segment: &mut Segment, key: &Key, value: ScalarValue) -> Result<(), 
 
 /// Puts a value where `index` others stand before it in the vector of a key.
 #[unsafe(no_mangle)]
-pub extern "C" fn zx_insert(
-    alloc: Global,
-    h: &mut SegmentSlot,
-    key: &ObjectKey<'_>,
-    index: u64,
-    value: &CScalar,
-) -> u32
+pub extern "C" fn zx_insert(h: &mut Slot, key: &CKey, index: u64, value: &CScalar) -> u32
     ensures call { DoesCommand (or_else (key_wrong key.now) (value_wrong value.now))
         (Insert (key_of key.now) index (literal_in value.now)) result h.old h.new }
 {
-    let (which, new, mut segment) = passed!(enter_with(alloc, h, key, value));
-    let answer = add(&mut segment, &which, InsertSpot::Before(index), new);
+    let (which, new, mut segment) = passed!(enter_with(h, key, value));
+    let spot = InsertSpot::Before(index);
+    let answer = add(&mut segment, &which, spot, &new, &mut ());
     done(answer, h, segment)
-}
-
-/// Puts a value into the vector of a key, where the spot says.
-fn add(
-    segment: &mut Segment,
-    key: &Key,
-    spot: InsertSpot,
-    value: ScalarValue,
-) -> Result<(), Refusal>
-    ensures step { TakesStep segment.old segment.new (command_at spot (key_seen key.now) (literal_seen value))
-        (done_answer result) }
-    ensures refused { OnErr result (segment.new ≡ segment.old) }
-{
-    segment_values::add(segment, key, spot, &value, &mut ())
 }
 
 /// Leaves out the element at `index` in the vector of a key, of scalars or of strings.
 #[unsafe(no_mangle)]
-pub extern "C" fn zx_erase(
-    alloc: Global,
-    h: &mut SegmentSlot,
-    key: &ObjectKey<'_>,
-    index: u64,
-) -> u32
+pub extern "C" fn zx_erase(h: &mut Slot, key: &CKey, index: u64) -> u32
     ensures call { DoesCommand (key_wrong key.now) (Erase (key_of key.now) index) result h.old h.new }
 {
-    make_change(alloc, h, key, ObjectChange::Erase(index))
+    make_change(h, key, ObjectChange::Erase(index))
 }
 
 /// Takes the last element out of the vector of a key, a vector of scalars.
 #[unsafe(no_mangle)]
-pub extern "C" fn zx_pop(
-    alloc: Global,
-    h: &mut SegmentSlot,
-    key: &ObjectKey<'_>,
-    value: &mut CScalar,
-) -> u32
+pub extern "C" fn zx_pop(h: &mut Slot, key: &CKey, value: &mut CScalar) -> u32
     ensures call { ChangesHandle (key_wrong key.now) result h.old h.new
         (λ s t. Transitions s t (answer_for result (element_in value.new)) (λ d.
         step_of_kind s.mode d (key_of key.now) (VectorOf (vector_kind_at d (key_of key.now))) (Pop (key_of key.now)))) }
     ensures outputs_on_error { 1 ≤ result → value.new ≡ value.old }
 {
-    let (which, mut segment) = passed!(enter(alloc, h, key));
+    let (which, mut segment) = passed!(enter(h, key));
     h.marks.raise();
     let answer = pop(&mut segment, &which);
     put(element_out(answer, value), h, segment)
@@ -268,10 +213,10 @@ fn kind_of_vector(segment: &Segment, key: &Key) -> ScalarKind
 
 /// Takes the last text out of the vector of strings of a key. It is read before by `zx_read_text`.
 #[unsafe(no_mangle)]
-pub extern "C" fn zx_pop_text(alloc: Global, h: &mut SegmentSlot, key: &ObjectKey<'_>) -> u32
+pub extern "C" fn zx_pop_text(h: &mut Slot, key: &CKey) -> u32
     ensures call { ChangesHandle (key_wrong key.now) result h.old h.new
         (λ s t. LeadsOnOfKind s t (key_of key.now) StringsKind (Pop (key_of key.now))
         (refusal_of (answer_for result Done))) }
 {
-    make_change(alloc, h, key, ObjectChange::PopText)
+    make_change(h, key, ObjectChange::PopText)
 }

@@ -1,26 +1,23 @@
 //! Segments made, opened, looked at, saved and closed.
-ghost use Rattle.std.specs.Prelude.{◌≡◌, ◌≢◌, ◌≤◌, ◌⊎◌, ◌↔◌, ◌+◌, IfErr, IfOk, IsTrue, MatchOption, MatchResult};
+ghost use Rattle.std.specs.Prelude.{◌≡◌, ◌≢◌, ◌≤◌, ◌↔◌, ◌+◌, MatchOption, false};
 ghost use Rattle.std.specs.declared.option.Option.TheVariants.{None, Some};
-ghost use Rattle.std.specs.Prelude.{false, length, min};
 ghost use Rattle.block_tags.specs.Format.{is_legal_size};
 ghost use Rattle.image_check.specs.{Classes.number_of, declared.errors.OpenError.TheVariants.ReadFault};
-ghost use Rattle.raw_region.specs.{Memory.zeros, Regions.IsCapacity};
+ghost use Rattle.raw_region.specs.{Memory.zeros};
 ghost use Rattle.seg_types.specs.Commands.{Free, Size};
-ghost use Rattle.segment_c.specs.Opening.{IsImageOpened, IsNoImage, IsPlaced, IsWhyNotOpened, OpensInHandle};
-ghost use Rattle.segment_c.specs.Images.{CopiesOut, mode_code, mode_of, mode_wrong};
-ghost use Rattle.segment_c.specs.{Codes.answer_for, Opening.code_of_cause, Opening.place_of_cause, Opening.size_said};
-ghost use Rattle.segment_c.specs.{Handles.AsksHandle, Handles.AsksSegment, Marked.placed, Marked.PlacesSegment};
-ghost use Rattle.segment_c.specs.Calls.{HoldsSegment};
-ghost use Rattle.segment_manager.specs.{Calls.CreatesOk, State.AnswersQuery, State.IsSegment, State.SegmentState};
+ghost use Rattle.segment_c.specs.Opening.{IsNoImage, IsPlaced, OpensInHandle};
+ghost use Rattle.segment_c.specs.Opening.{code_of_cause, place_of_cause, size_said};
+ghost use Rattle.segment_c.specs.{Calls.HoldsSegment, Handles.AsksHandle, Handles.AsksSegment, Marked.PlacesSegment};
+ghost use Rattle.segment_c.specs.{Images.CopiesOut, Images.mode_code, Images.mode_of, Images.mode_wrong, Marked.placed};
 ghost use Rattle.segment_manager.specs.{blocks.Resized.room_behind, declared.modes.Mode.TheVariants.Write};
-ghost use Rattle.segment_manager.specs.Answers.{Number};
+ghost use Rattle.segment_manager.specs.{Answers.Number, Calls.CreatesOk, State.IsSegment, State.SegmentState};
 
-use crate::calls::passed;
+use crate::calls::{ask, passed};
 use crate::codes::{
     BAD_IMAGE, BAD_MODE, BAD_SIZE, DONE, SHORT_BUFFER, SHORT_REGION, boxed_or_not, no_memory,
 };
 use crate::resizing::is_capacity;
-use crate::segment_slot::{HeldSegment, SegmentSlot, put, put_new, take};
+use crate::slot::{HeldSegment, Slot, put, put_new, take};
 use block_tags::is_legal_size;
 use grow_shrink::region_for;
 use image_check::{
@@ -33,74 +30,80 @@ use std::alloc::Global;
 /// Returns an empty segment of `size` bytes, open for writing. What the handle had is freed. The handle is as it was
 /// unless the code is 0.
 #[unsafe(no_mangle)]
-pub extern "C" fn zx_create(alloc: Global, h: &mut SegmentSlot, size: u64) -> u32
+pub extern "C" fn zx_create(h: &mut Slot, size: u64) -> u32
     ensures size { (result ≡ 22) ↔ (is_legal_size size ≡ false) }
     ensures creation { result ≡ 0 → HoldsSegment h.new.segment.value (λ t. CreatesOk (zeros size) 0 size Write t) }
     ensures error { 1 ≤ result → result ≢ 22 → result ≡ 26 }
     ensures unchanged_on_error { 1 ≤ result → h.new.segment.value ≡ h.old.segment.value }
     ensures marks { PlacesSegment result h.old.marks h.new.marks false }
 {
-    let segment = passed!(new_segment(alloc, size));
+    if !is_legal_size(size) {
+        return BAD_SIZE;
+    }
+    let region = match RawRegion::new(h.alloc, size) {
+        Ok(region) => region,
+        Err(refusal) => return no_memory(MemoryFault::Bytes(refusal)),
+    };
+    let Ok(segment) = Segment::create(region, 0, size, Mode::Write) else {
+        unreachable!()
+    };
+    let segment = passed!(boxed_or_not(h.alloc, segment));
     put_new(h, segment, false)
 }
 
 /// Frees the segment. A closed handle stays closed.
 #[unsafe(no_mangle)]
-pub extern "C" fn zx_close(alloc: Global, h: &mut SegmentSlot)
+pub extern "C" fn zx_close(h: &mut Slot)
     ensures closed { h.new.segment.value ≡ None }
     ensures marks { h.new.marks ≡ placed h.old.marks false }
 {
-    h.segment = HeldSegment::closed(alloc);
+    h.segment = HeldSegment::closed(h.alloc);
     h.marks.place(false);
 }
 
 /// Returns the number of bytes in the segment.
 #[unsafe(no_mangle)]
-pub extern "C" fn zx_size(alloc: Global, h: &mut SegmentSlot, size: &mut u64) -> u32
+pub extern "C" fn zx_size(h: &mut Slot, size: &mut u64) -> u32
     ensures call { AsksSegment Number 0 Size result h.old h.new size.old size.new }
 {
-    let segment = passed!(take(alloc, h));
-    *size = segment.size();
-    put(DONE, h, segment)
+    ask!(h, size, segment => segment.size())
 }
 
 /// Returns the bytes of all gaps, their tags included.
 #[unsafe(no_mangle)]
-pub extern "C" fn zx_free_bytes(alloc: Global, h: &mut SegmentSlot, free_bytes: &mut u64) -> u32
+pub extern "C" fn zx_free_bytes(h: &mut Slot, free_bytes: &mut u64) -> u32
     ensures call { AsksSegment Number 0 Free result h.old h.new free_bytes.old free_bytes.new }
 {
-    let segment = passed!(take(alloc, h));
-    *free_bytes = segment.free();
-    put(DONE, h, segment)
+    ask!(h, free_bytes, segment => segment.free())
 }
 
 /// Returns how the segment is open.
 #[unsafe(no_mangle)]
-pub extern "C" fn zx_mode(alloc: Global, h: &mut SegmentSlot, mode: &mut u32) -> u32
+pub extern "C" fn zx_mode(h: &mut Slot, mode: &mut u32) -> u32
     ensures call { AsksHandle 0 result h.old h.new (λ s t. (result ≡ 0)
         × (mode.new ≡ mode_code s.mode)) }
     ensures unchanged_on_error { 1 ≤ result → mode.new ≡ mode.old }
 {
-    let segment = passed!(take(alloc, h));
-    *mode = code_of_mode(segment.mode());
-    put(DONE, h, segment)
+    ask!(h, mode, segment => match segment.mode() {
+        Mode::Write => 0,
+        Mode::ReadOnly => 1,
+        Mode::CopyOnWrite => 2,
+    })
 }
 
 /// Returns the number of bytes of the region after the segment.
 #[unsafe(no_mangle)]
-pub extern "C" fn zx_region_left(alloc: Global, h: &mut SegmentSlot, left: &mut u64) -> u32
+pub extern "C" fn zx_region_left(h: &mut Slot, left: &mut u64) -> u32
     ensures call { AsksHandle 0 result h.old h.new (λ s t. (result ≡ 0)
         × (left.new ≡ room_behind s.cut)) }
     ensures unchanged_on_error { 1 ≤ result → left.new ≡ left.old }
 {
-    let segment = passed!(take(alloc, h));
-    *left = segment.region_left();
-    put(DONE, h, segment)
+    ask!(h, left, segment => segment.region_left())
 }
 
 /// Copies the image to the front of the buffer.
 #[unsafe(no_mangle)]
-pub extern "C" fn zx_save(alloc: Global, h: &mut SegmentSlot, image: &mut [u8]) -> u32
+pub extern "C" fn zx_save(h: &mut Slot, image: &mut [u8]) -> u32
     ensures closed { h.old.segment.value ≡ None → result ≡ 16 }
     ensures saved { (s : SegmentState) → h.old.segment.value ≡ Some s
         → CopiesOut s.cut.bytes image.old image.new result }
@@ -108,7 +111,7 @@ pub extern "C" fn zx_save(alloc: Global, h: &mut SegmentSlot, image: &mut [u8]) 
     ensures unchanged_on_error { 1 ≤ result → image.new ≡ image.old }
     ensures marks { h.new.marks ≡ h.old.marks }
 {
-    let segment = passed!(take(alloc, h));
+    let segment = passed!(take(h));
     put(copy_out(segment.as_bytes(), image), h, segment)
 }
 
@@ -125,56 +128,19 @@ pub fn copy_out(bytes: &[u8], buffer: &mut [u8]) -> u32
     DONE
 }
 
-/// Returns the code of a mode.
-fn code_of_mode(mode: Mode) -> u32
-    ensures { result ≡ mode_code mode }
-{
-    match mode {
-        Mode::Write => 0,
-        Mode::ReadOnly => 1,
-        Mode::CopyOnWrite => 2,
-    }
-}
-
-/// Returns an empty segment of `size` bytes in a box.
-fn new_segment(alloc: Global, size: u64) -> Result<Box<Segment>, u32>
-    ensures creation { IfOk result (λ s. IsTrue (is_legal_size size) × CreatesOk (zeros size) 0 size Write s.value) }
-    ensures refused { IfErr result (λ code. ((code ≡ 22) × (is_legal_size size ≡ false))
-        ⊎ ((code ≡ 26) × IsTrue (is_legal_size size))) }
-{
-    if !is_legal_size(size) {
-        return Err(BAD_SIZE);
-    }
-    let region = match RawRegion::new(alloc, size) {
-        Ok(region) => region,
-        Err(refusal) => return Err(no_memory(MemoryFault::Bytes(refusal))),
-    };
-    match Segment::create(region, 0, size, Mode::Write) {
-        Ok(segment) => boxed_or_not(alloc, segment),
-        Err(_) => unreachable!(),
-    }
-}
-
 /// Returns the segment whose image the bytes are, in a region of `capacity` bytes. What the handle had is freed. The
 /// handle is as it was unless the code is 0.
 #[unsafe(no_mangle)]
-pub extern "C" fn zx_open(
-    alloc: Global,
-    h: &mut SegmentSlot,
-    image: &[u8],
-    capacity: u64,
-    mode: u32,
-) -> u32
+pub extern "C" fn zx_open(h: &mut Slot, image: &[u8], capacity: u64, mode: u32) -> u32
     ensures opening { OpensInHandle image.now capacity mode result h.old h.new }
 {
-    zx_open_explained(alloc, h, image, capacity, mode, &mut 0)
+    zx_open_explained(h, image, capacity, mode, &mut 0)
 }
 
 /// Opens as `zx_open` does. For a code of a class, `place` is set to the byte that shows it.
 #[unsafe(no_mangle)]
 pub extern "C" fn zx_open_explained(
-    alloc: Global,
-    h: &mut SegmentSlot,
+    h: &mut Slot,
     image: &[u8],
     capacity: u64,
     mode: u32,
@@ -189,8 +155,15 @@ pub extern "C" fn zx_open_explained(
     let Some(mode) = mode_for(mode) else {
         return BAD_MODE;
     };
-    let segment = passed!(open_boxed(alloc, image, capacity, mode, place));
-    put_new(h, segment, false)
+    let region = match RawRegion::new(h.alloc, capacity) {
+        Ok(region) => region,
+        Err(refusal) => return no_memory(MemoryFault::Bytes(refusal)),
+    };
+    let versions = AcceptedVersions::Current;
+    match open_bytes(h.alloc, versions, image, region, 0, mode, &mut Steps::new()) {
+        Ok(segment) => put_new(h, passed!(boxed_or_not(h.alloc, segment)), false),
+        Err(refused) => refused_code(refused.cause, place),
+    }
 }
 
 /// Checks that the bytes are the image of a segment, and returns a code.
@@ -216,19 +189,10 @@ pub extern "C" fn zx_explain(alloc: Global, image: &[u8], place: &mut u64) -> u3
         *place = len;
         return class_code(ImageClass::Truncated);
     }
-    match region_for(alloc, size) {
-        Ok(region) => examine_in(alloc, image, region, place),
-        Err(refusal) => no_memory(MemoryFault::Bytes(refusal)),
-    }
-}
-
-/// Examines an image in a region that has room for the size that the bytes say.
-fn examine_in(alloc: Global, image: &[u8], region: RawRegion, place: &mut u64) -> u32
-    requires { min (size_said image.now) 1073741824 ≤ length region }
-    ensures owner { result ≡ 0 → IsSegment image.now }
-    ensures cause { 1 ≤ result → IsNoImage image.now result }
-    ensures place { IsPlaced image.now result place.old place.new }
-{
+    let region = match region_for(alloc, size) {
+        Ok(region) => region,
+        Err(refusal) => return no_memory(MemoryFault::Bytes(refusal)),
+    };
     let steps = &mut Steps::new();
     let versions = AcceptedVersions::Current;
     match open_bytes(alloc, versions, image, region, 0, Mode::ReadOnly, steps) {
@@ -274,52 +238,6 @@ pub fn mode_for(code: u32) -> Option<Mode>
         1 => Some(Mode::ReadOnly),
         2 => Some(Mode::CopyOnWrite),
         _ => None,
-    }
-}
-
-/// Returns the segment whose image the bytes are, in a box.
-fn open_boxed(
-    alloc: Global,
-    image: &[u8],
-    capacity: u64,
-    mode: Mode,
-    place: &mut u64,
-) -> Result<Box<Segment>, u32>
-    requires { IsCapacity capacity }
-    ensures opening { MatchResult result (λ s. IsImageOpened image.now capacity mode s.value) (λ code. (1 ≤ code)
-        × IsWhyNotOpened image.now capacity code) }
-    ensures place { MatchResult result (λ _. place.new ≡ place.old) (λ code.
-        IsPlaced image.now code place.old place.new) }
-{
-    let region = match RawRegion::new(alloc, capacity) {
-        Ok(region) => region,
-        Err(refusal) => return Err(no_memory(MemoryFault::Bytes(refusal))),
-    };
-    boxed_or_not(alloc, open_in(alloc, image, region, mode, place)?)
-}
-
-/// Returns the segment whose image the bytes are, at the front of the region.
-///
-/// # Errors
-///
-/// The code.
-fn open_in(
-    alloc: Global,
-    image: &[u8],
-    region: RawRegion,
-    mode: Mode,
-    place: &mut u64,
-) -> Result<Segment, u32>
-    requires { region ≡ zeros (length region) }
-    ensures opening { MatchResult result (IsImageOpened image.now (length region) mode) (λ code. (1 ≤ code)
-        × IsWhyNotOpened image.now (length region) code) }
-    ensures place { MatchResult result (λ _. place.new ≡ place.old) (λ code.
-        IsPlaced image.now code place.old place.new) }
-{
-    let versions = AcceptedVersions::Current;
-    match open_bytes(alloc, versions, image, region, 0, mode, &mut Steps::new()) {
-        Ok(segment) => Ok(segment),
-        Err(refused) => Err(refused_code(refused.cause, place)),
     }
 }
 

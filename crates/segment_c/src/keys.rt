@@ -11,7 +11,7 @@ use seg_types::{Handle, IndexKey, Key, Kind, Name};
 /// a new one with no key (3). 4 stands for a null name.
 #[repr(C)]
 #[derive(Drop)]
-pub struct ObjectKey<'a> {
+pub struct CKey<'a> {
     /// Which of the fields says the object.
     pub how: u32,
     /// The code of a kind.
@@ -22,7 +22,7 @@ pub struct ObjectKey<'a> {
     pub name: &'a [u8],
 }
 
-impl<'a> ObjectKey<'a> {
+impl<'a> CKey<'a> {
     /// Returns the key of an object that is there.
     ///
     /// # Errors
@@ -57,10 +57,10 @@ impl<'a> ObjectKey<'a> {
     /// Returns the key of a handle.
     #[inline(always)]
     #[tactic(auto, unfolding(crate::specs::Passed::key_wrong, crate::specs::Passed::key_of))]
-    pub fn of_handle(handle: Handle) -> ObjectKey<'static>
+    pub fn of_handle(handle: Handle) -> CKey<'static>
         ensures { (key_wrong result ≡ 0) × (key_of result ≡ ByHandle handle) }
     {
-        ObjectKey {
+        CKey {
             how: 2,
             kind: 0,
             handle,

@@ -1,43 +1,33 @@
 //! Segments in memory that C lends, as in a file that it mapped: they stand there, and no byte of them is copied.
-ghost use Rattle.std.specs.Prelude.{◌≡◌, ◌≢◌, ◌≤◌, List, [], MatchResult, false, if◌then◌else◌, length, true};
+ghost use Rattle.std.specs.Prelude.{◌≡◌, ◌≤◌, false, true};
 ghost use Rattle.std.specs.declared.option.Option.TheVariants.{None as NoSegment, Some as Held};
-ghost use Rattle.raw_region.specs.{Memory.part, Memory.whole, Regions.IsCapacity};
-ghost use Rattle.segment_c.specs.{Lending.IsOpenedHere, Lending.memory_wrong, Lending.OpensHere, Marked.PlacesSegment};
-ghost use Rattle.segment_c.specs.{Calls.RefusesClosed, Opening.IsPlaced, Opening.IsWhyNotOpened};
+ghost use Rattle.raw_region.specs.{Memory.part, Memory.whole};
+ghost use Rattle.segment_c.specs.{Calls.RefusesClosed, Lending.OpensHere, Marked.PlacesSegment, Opening.IsPlaced};
 ghost use Rattle.segment_manager.specs.State.{SegmentState};
 
 use crate::calls::passed;
 use crate::codes::{BAD_MODE, BAD_SIZE, DONE, boxed_or_region};
 use crate::images::{mode_for, refused_code};
 use crate::resizing::is_capacity;
-use crate::segment_slot::{SegmentSlot, put_new, take};
+use crate::slot::{Slot, put_new, take};
 use image_check::open_here;
 use raw_region::{LentMemory, RawRegion, Steps};
-use segment_manager::{Mode, Segment};
-use std::alloc::Global;
 
 /// Opens the image of `len` bytes at the front of the memory in place. It copies no byte, and writes none before the
 /// first call that changes the segment. The memory belongs to the handle until `zx_detach`. What the handle had is
 /// freed. The handle and the memory are as they were unless the code is 0.
 #[unsafe(no_mangle)]
-pub extern "C" fn zx_attach(
-    alloc: Global,
-    h: &mut SegmentSlot,
-    memory: &mut LentMemory,
-    len: u64,
-    mode: u32,
-) -> u32
+pub extern "C" fn zx_attach(h: &mut Slot, memory: &mut LentMemory, len: u64, mode: u32) -> u32
     ensures opening { OpensHere memory.old.bytes.items memory.new.bytes.items len mode result h.old h.new }
 {
-    zx_attach_explained(alloc, h, memory, len, mode, &mut 0)
+    zx_attach_explained(h, memory, len, mode, &mut 0)
 }
 
 /// Opens as `zx_attach` does. For a code of a class, `place` is set to the byte that shows it. The memory is checked
 /// once, so the code and the place are of the same bytes, even if another process changes a mapped file.
 #[unsafe(no_mangle)]
 pub extern "C" fn zx_attach_explained(
-    alloc: Global,
-    h: &mut SegmentSlot,
+    h: &mut Slot,
     memory: &mut LentMemory,
     len: u64,
     mode: u32,
@@ -46,75 +36,40 @@ pub extern "C" fn zx_attach_explained(
     ensures opening { OpensHere memory.old.bytes.items memory.new.bytes.items len mode result h.old h.new }
     ensures place { IsPlaced (part memory.old.bytes.items 0 len) result place.old place.new }
 {
-    if !holds(memory, len) {
+    if !is_capacity(memory.len) || memory.len < len {
         return BAD_SIZE;
     }
     let Some(mode) = mode_for(mode) else {
         return BAD_MODE;
     };
-    match open_over(alloc, region_over(alloc, memory), len, mode, place) {
-        Ok(segment) => put_new(h, segment, true),
-        Err((code, region)) => {
-            *memory = region.leak();
-            code
-        }
-    }
-}
-
-/// Tells whether memory may be a region, and holds an image of `len` bytes.
-fn holds(memory: &LentMemory, len: u64) -> bool
-    ensures error { memory_wrong (length memory.now.bytes.items) len ≡ (if result then 0 else 22) }
-    ensures capacity { result ≡ true → IsCapacity (length memory.now.bytes.items) }
-    ensures fits { result ≡ true → len ≤ length memory.now.bytes.items }
-{
-    is_capacity(memory.len) && len <= memory.len
-}
-
-/// Returns the region that memory is, of which nothing is left.
-fn region_over(alloc: Global, memory: &mut LentMemory) -> RawRegion
-    requires { IsCapacity (length memory.old.bytes.items) }
-    ensures region { result ≡ memory.old.bytes.items }
-    ensures remainder { memory.new.bytes.items ≡ [] }
-{
-    RawRegion::over(alloc, std::mem::replace(memory, LentMemory::none()))
-}
-
-/// Returns the segment whose image stands at the front of the region, in a box.
-///
-/// # Errors
-///
-/// The code, and the region as it was.
-fn open_over(
-    alloc: Global,
-    region: RawRegion,
-    len: u64,
-    mode: Mode,
-    place: &mut u64,
-) -> Result<Box<Segment>, (u32, RawRegion)>
-    requires { len ≤ length region }
-    ensures opening { MatchResult result (λ s. IsOpenedHere region len mode s.value)
-        (λ refused. (1 ≤ refused.0) × (refused.1 ≡ region)
-        × IsWhyNotOpened (part region 0 len) (length region) refused.0) }
-    ensures place { MatchResult result (λ _. place.new ≡ place.old) (λ refused.
-        IsPlaced (part region 0 len) refused.0 place.old place.new) }
-{
+    let alloc = h.alloc;
+    let region = RawRegion::over(alloc, std::mem::replace(memory, LentMemory::none()));
     match open_here(alloc, region, 0, len, mode, &mut Steps::new()) {
-        Ok(segment) => boxed_or_region(alloc, segment),
-        Err(refused) => Err((refused_code(refused.cause, place), refused.region)),
+        Ok(segment) => match boxed_or_region(alloc, segment) {
+            Ok(segment) => put_new(h, segment, true),
+            Err((code, region)) => {
+                *memory = region.leak();
+                code
+            }
+        },
+        Err(refused) => {
+            *memory = refused.region.leak();
+            refused_code(refused.cause, place)
+        }
     }
 }
 
 /// Closes the segment, and gives the memory of its region back with its present bytes. C lent that memory, or is to
 /// free it if the library took it.
 #[unsafe(no_mangle)]
-pub extern "C" fn zx_detach(alloc: Global, h: &mut SegmentSlot, memory: &mut LentMemory) -> u32
+pub extern "C" fn zx_detach(h: &mut Slot, memory: &mut LentMemory) -> u32
     ensures closed { RefusesClosed 0 result h.old.segment.value h.new.segment.value }
     ensures input { (s : SegmentState) → h.old.segment.value ≡ Held s
         → (result ≡ 0) × (h.new.segment.value ≡ NoSegment) × (memory.new.bytes.items ≡ whole s.cut) }
     ensures remainder { 1 ≤ result → memory.new ≡ memory.old }
     ensures marks { PlacesSegment result h.old.marks h.new.marks false }
 {
-    let segment = passed!(take(alloc, h));
+    let segment = passed!(take(h));
     h.marks.place(false);
     *memory = Box::into_inner(segment).into_region().leak();
     DONE

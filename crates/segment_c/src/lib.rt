@@ -19,8 +19,8 @@ mod pair_series;
 mod ranges;
 mod reading;
 mod resizing;
-mod segment_slot;
 mod slices;
+mod slot;
 mod storage;
 mod strings;
 mod transactions;
@@ -28,4 +28,4 @@ mod values;
 mod vectors;
 mod views;
 
-pub use segment_slot::SegmentSlot;
+pub use slot::Slot;

@@ -91,11 +91,12 @@ pub extern "C" fn zx_log_body(alloc: Global, payload: &[u8], out: &mut [u8]) -> 
 pub extern "C" fn zx_log_gate(alloc: Global, is_open: bool, out: &mut [u8]) -> u32
     ensures { WritesOut (gate_of is_open) out.old out.new result }
 {
-    if is_open {
-        write_out(open_gate(alloc), out)
+    let gate = if is_open {
+        open_gate(alloc)
     } else {
-        write_out(shut_gate(alloc), out)
-    }
+        shut_gate(alloc)
+    };
+    write_out(gate, out)
 }
 
 /// Returns the most bytes that an image has while the records of a log are applied to a file of `len` bytes.

@@ -5,15 +5,12 @@ ghost use Rattle.segment_c.specs.Messages.{code_message, version};
 use image_check::ImageClass;
 use seg_types::Refusal;
 
-/// The version of the library: 10000 for each major one, 100 for each minor one, and 1 for each patch.
-const VERSION: u32 = 900;
-
-/// Returns the version of the library, as a number.
+/// Returns the version of the library: 10000 for each major one, 100 for each minor one, and 1 for each patch.
 #[unsafe(no_mangle)]
 pub extern "C" fn zx_version() -> u32
     ensures { result ≡ version }
 {
-    VERSION
+    900
 }
 
 /// Returns the words for a code, which stay as long as the program runs; none if it is no code.
@@ -21,14 +18,7 @@ pub extern "C" fn zx_version() -> u32
 pub extern "C" fn zx_words(code: u32, message: &mut &'static [u8])
     ensures { message.new.now ≡ code_message code }
 {
-    *message = code_message(code);
-}
-
-/// Returns the words for a code.
-fn code_message(code: u32) -> &'static [u8]
-    ensures { result.now ≡ code_message code }
-{
-    match code {
+    *message = match code {
         0 => b"done",
         4 => Refusal::ReadOnly.message().as_bytes(),
         5 => Refusal::Exists.message().as_bytes(),
@@ -64,5 +54,5 @@ fn code_message(code: u32) -> &'static [u8]
         111 => ImageClass::BadContainer.message().as_bytes(),
         112 => ImageClass::OrphanBlock.message().as_bytes(),
         _ => b"",
-    }
+    };
 }

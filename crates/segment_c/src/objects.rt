@@ -1,26 +1,23 @@
 //! Objects made, found and destroyed.
-ghost use Rattle.std.specs.Prelude.{◌≡◌, ◌≤◌, ◌≢◌, MatchResult, OnErr, Some, map, replicate, ℕ};
+ghost use Rattle.std.specs.Prelude.{◌≡◌, ◌≤◌, MatchResult, Some, map, replicate, ℕ};
 ghost use Rattle.seg_types.specs.declared.kinds.Kind.TheVariants.{Map as MapOf, Scalar as ScalarOf};
 ghost use Rattle.seg_types.specs.declared.kinds.Kind.TheVariants.{String as StringKind, Strings as StringsKind};
 ghost use Rattle.seg_types.specs.Commands.{Bytes, Find, NoPairs, Numbers, Strings};
-ghost use Rattle.seg_types.specs.{Keys.key_seen, Kinds.scalar_of_code, Values.kind_of_scalar, Values.value_of_scalar};
-ghost use Rattle.seg_types.specs.Names.{NoKey};
+ghost use Rattle.seg_types.specs.{Kinds.scalar_of_code, Values.kind_of_scalar, Values.value_of_scalar};
 ghost use Rattle.segment_c.specs.Passed.{count_wrong, entry_wrong, key_of, key_wrong, kind_in, kind_wrong, new_wrong};
 ghost use Rattle.segment_c.specs.Passed.{object_kind_in, or_else, scalar_in, scalar_kind_in, scalar_kind_wrong};
 ghost use Rattle.segment_c.specs.{Calls.ReachesSegment, Codes.answer_for, Passed.value_wrong, Passed.whole_in};
 ghost use Rattle.segment_c.specs.{Destroying.destroy_command, Handles.AsksHandle, Handles.StepsSegment};
 ghost use Rattle.segment_c.specs.Making.{TellsMade, TellsFoundOrMade};
-ghost use Rattle.segment_manager.specs.State.{AnswersQuery, TakesStep, truth_answer};
+ghost use Rattle.segment_manager.specs.State.{AnswersQuery};
 ghost use Rattle.segment_manager.specs.{Answers.Found, Answers.Boolean, Keeping.UnchangedWhere, Keeping.LacksKey};
 
 use crate::calls::{enter, enter_entry, enter_new, passed};
 use crate::codes::{BAD_COUNT, BAD_KIND, found, found_or_absent, made, truth};
-use crate::keys::ObjectKey;
-use crate::segment_slot::{SegmentSlot, take};
+use crate::keys::CKey;
+use crate::slot::{Slot, take};
 use crate::values::CScalar;
-use seg_types::{IndexKey, Key, Kind, MAX_ARRAY_LEN, Refusal, ScalarKind, ScalarValue};
-use segment_manager::Segment;
-use std::alloc::Global;
+use seg_types::{IndexKey, Key, Kind, MAX_ARRAY_LEN, ScalarKind, ScalarValue};
 
 /// The most scalars of an array.
 pub(crate) const MOST: u32 = MAX_ARRAY_LEN as u32;
@@ -52,21 +49,11 @@ fn map_kinds(keys: u32, values: u32) -> Result<(ScalarKind, ScalarKind), u32>
     }
 }
 
-/// Returns the kind of objects with this code, or `BAD_KIND`.
-#[tactic(auto, unfolding(crate::specs::Passed::kind_wrong, crate::specs::Passed::object_kind_in))]
-fn object_kind(code: u32) -> Result<Kind, u32>
-    ensures { MatchResult result (λ kind. (kind_wrong code ≡ 0) × (kind ≡ object_kind_in code)) (λ wrong.
-        (wrong ≡ kind_wrong code) × (1 ≤ wrong)) }
-{
-    Kind::from_code(code).ok_or(BAD_KIND)
-}
-
 /// Makes an object of `count` scalars, each with the value.
 #[unsafe(no_mangle)]
 pub extern "C" fn zx_construct(
-    alloc: Global,
-    h: &mut SegmentSlot,
-    key: &ObjectKey<'_>,
+    h: &mut Slot,
+    key: &CKey,
     count: u32,
     value: &CScalar,
     handle: &mut u64,
@@ -77,7 +64,7 @@ pub extern "C" fn zx_construct(
         result h.old h.new handle.old handle.new }
 {
     let new = passed!(scalars(value, count));
-    let (which, mut segment) = passed!(enter_new(alloc, h, key, Kind::Scalar(new.kind())));
+    let (which, mut segment) = passed!(enter_new(h, key, Kind::Scalar(new.kind())));
     let answer = segment.construct_value(&which, count, new);
     made(answer, handle, h, segment)
 }
@@ -85,9 +72,8 @@ pub extern "C" fn zx_construct(
 /// Finds the scalars of the key. If no object has the key, makes an object of `count` scalars, each with the value.
 #[unsafe(no_mangle)]
 pub extern "C" fn zx_find_or_construct(
-    alloc: Global,
-    h: &mut SegmentSlot,
-    key: &ObjectKey<'_>,
+    h: &mut Slot,
+    key: &CKey,
     count: u32,
     value: &CScalar,
     handle: &mut u64,
@@ -99,7 +85,7 @@ pub extern "C" fn zx_find_or_construct(
         result h.old h.new handle.old handle.new count_found.old count_found.new }
 {
     let new = passed!(scalars(value, count));
-    let (which, mut segment) = passed!(enter_entry(alloc, h, key, Kind::Scalar(new.kind())));
+    let (which, mut segment) = passed!(enter_entry(h, key, Kind::Scalar(new.kind())));
     let answer = segment.find_or_construct_value(&which, count, new);
     found(answer, handle, count_found, h, segment)
 }
@@ -107,25 +93,23 @@ pub extern "C" fn zx_find_or_construct(
 /// Makes a string.
 #[unsafe(no_mangle)]
 pub extern "C" fn zx_construct_string(
-    alloc: Global,
-    h: &mut SegmentSlot,
-    key: &ObjectKey<'_>,
+    h: &mut Slot,
+    key: &CKey,
     text: &[u8],
     handle: &mut u64,
 ) -> u32
     ensures { TellsMade (new_wrong key.now StringKind) key.now StringKind (Bytes text.now) result h.old h.new
         handle.old handle.new }
 {
-    let (which, mut segment) = passed!(enter_new(alloc, h, key, Kind::String));
+    let (which, mut segment) = passed!(enter_new(h, key, Kind::String));
     made(segment.construct_string(&which, text), handle, h, segment)
 }
 
 /// Finds the string of the key. If no object has the key, makes a string of these bytes.
 #[unsafe(no_mangle)]
 pub extern "C" fn zx_find_or_construct_string(
-    alloc: Global,
-    h: &mut SegmentSlot,
-    key: &ObjectKey<'_>,
+    h: &mut Slot,
+    key: &CKey,
     text: &[u8],
     handle: &mut u64,
     count_found: &mut u32,
@@ -133,7 +117,7 @@ pub extern "C" fn zx_find_or_construct_string(
     ensures { TellsFoundOrMade (entry_wrong key.now StringKind) key.now StringKind (Bytes text.now) result h.old h.new
         handle.old handle.new count_found.old count_found.new }
 {
-    let (which, mut segment) = passed!(enter_entry(alloc, h, key, Kind::String));
+    let (which, mut segment) = passed!(enter_entry(h, key, Kind::String));
     let answer = segment.find_or_construct_string(&which, text);
     found(answer, handle, count_found, h, segment)
 }
@@ -141,25 +125,23 @@ pub extern "C" fn zx_find_or_construct_string(
 /// Makes a vector of strings.
 #[unsafe(no_mangle)]
 pub extern "C" fn zx_construct_strings(
-    alloc: Global,
-    h: &mut SegmentSlot,
-    key: &ObjectKey<'_>,
+    h: &mut Slot,
+    key: &CKey,
     texts: &[&[u8]],
     handle: &mut u64,
 ) -> u32
     ensures { TellsMade (new_wrong key.now StringsKind) key.now StringsKind
         (Strings (map (λ text. text.now) texts.now)) result h.old h.new handle.old handle.new }
 {
-    let (which, mut segment) = passed!(enter_new(alloc, h, key, Kind::Strings));
+    let (which, mut segment) = passed!(enter_new(h, key, Kind::Strings));
     made(segment.construct_texts(&which, texts), handle, h, segment)
 }
 
 /// Finds the vector of strings of the key. If no object has the key, makes a vector of these strings.
 #[unsafe(no_mangle)]
 pub extern "C" fn zx_find_or_construct_strings(
-    alloc: Global,
-    h: &mut SegmentSlot,
-    key: &ObjectKey<'_>,
+    h: &mut Slot,
+    key: &CKey,
     texts: &[&[u8]],
     handle: &mut u64,
     count_found: &mut u32,
@@ -168,7 +150,7 @@ pub extern "C" fn zx_find_or_construct_strings(
         (Strings (map (λ text. text.now) texts.now)) result h.old h.new handle.old handle.new count_found.old
         count_found.new }
 {
-    let (which, mut segment) = passed!(enter_entry(alloc, h, key, Kind::Strings));
+    let (which, mut segment) = passed!(enter_entry(h, key, Kind::Strings));
     let answer = segment.find_or_construct_texts(&which, texts);
     found(answer, handle, count_found, h, segment)
 }
@@ -176,9 +158,8 @@ pub extern "C" fn zx_find_or_construct_strings(
 /// Makes an empty map from keys of one kind to values of another.
 #[unsafe(no_mangle)]
 pub extern "C" fn zx_construct_map(
-    alloc: Global,
-    h: &mut SegmentSlot,
-    key: &ObjectKey<'_>,
+    h: &mut Slot,
+    key: &CKey,
     keys: u32,
     values: u32,
     handle: &mut u64,
@@ -189,7 +170,7 @@ pub extern "C" fn zx_construct_map(
         result h.old h.new handle.old handle.new }
 {
     let (of_keys, of_values) = passed!(map_kinds(keys, values));
-    let (which, mut segment) = passed!(enter_new(alloc, h, key, Kind::Map(of_keys, of_values)));
+    let (which, mut segment) = passed!(enter_new(h, key, Kind::Map(of_keys, of_values)));
     let answer = segment.construct_map_of(&which, of_keys, of_values);
     made(answer, handle, h, segment)
 }
@@ -197,9 +178,8 @@ pub extern "C" fn zx_construct_map(
 /// Finds the map of the key. If no object has the key, makes an empty map.
 #[unsafe(no_mangle)]
 pub extern "C" fn zx_find_or_construct_map(
-    alloc: Global,
-    h: &mut SegmentSlot,
-    key: &ObjectKey<'_>,
+    h: &mut Slot,
+    key: &CKey,
     keys: u32,
     values: u32,
     handle: &mut u64,
@@ -211,17 +191,17 @@ pub extern "C" fn zx_find_or_construct_map(
         result h.old h.new handle.old handle.new count_found.old count_found.new }
 {
     let (of_keys, of_values) = passed!(map_kinds(keys, values));
-    let (which, mut segment) = passed!(enter_entry(alloc, h, key, Kind::Map(of_keys, of_values)));
+    let (which, mut segment) = passed!(enter_entry(h, key, Kind::Map(of_keys, of_values)));
     let answer = segment.find_or_construct_map_of(&which, of_keys, of_values);
     found(answer, handle, count_found, h, segment)
 }
 
 /// Finds the object of the key, which must have this kind.
 #[unsafe(no_mangle)]
+#[tactic(auto, unfolding(crate::specs::Passed::kind_wrong, crate::specs::Passed::object_kind_in))]
 pub extern "C" fn zx_find(
-    alloc: Global,
-    h: &mut SegmentSlot,
-    key: &ObjectKey<'_>,
+    h: &mut Slot,
+    key: &CKey,
     kind: u32,
     handle: &mut u64,
     count: &mut u32,
@@ -232,8 +212,8 @@ pub extern "C" fn zx_find(
     ensures outputs_on_error { 1 ≤ result → (handle.new ≡ handle.old) × (count.new ≡ count.old) }
 {
     let which = passed!(key.key());
-    let of_kind = passed!(object_kind(kind));
-    let segment = passed!(take(alloc, h));
+    let of_kind = passed!(Kind::from_code(kind).ok_or(BAD_KIND));
+    let segment = passed!(take(h));
     let answer = segment.find_kind(&which, of_kind);
     found_or_absent(answer, handle, count, h, segment)
 }
@@ -241,35 +221,18 @@ pub extern "C" fn zx_find(
 /// Destroys the object of the key, and reports whether it existed. If no object has the key, nothing changes; for a
 /// handle this is the error `NotFound`.
 #[unsafe(no_mangle)]
-pub extern "C" fn zx_destroy(
-    alloc: Global,
-    h: &mut SegmentSlot,
-    key: &ObjectKey<'_>,
-    was_there: &mut bool,
-) -> u32
+pub extern "C" fn zx_destroy(h: &mut Slot, key: &CKey, was_there: &mut bool) -> u32
     ensures call { StepsSegment Boolean (key_wrong key.now) (destroy_command (key_of key.now)) result h.old h.new
         was_there.old was_there.new }
     ensures absent { ReachesSegment (key_wrong key.now) result h.old.segment.value h.new.segment.value (λ s t.
         UnchangedWhere s t (LacksKey (key_of key.now))) }
 {
-    let (which, mut segment) = passed!(enter(alloc, h, key));
-    truth(destroy(&mut segment, &which), was_there, h, segment)
-}
-
-/// Destroys the object of a key, and returns whether it existed; `NotFound` if no object has the handle.
-fn destroy(segment: &mut Segment, which: &Key) -> Result<bool, Refusal>
-    requires { key_seen which.now ≢ NoKey }
-    ensures step { TakesStep segment.old segment.new (destroy_command (key_seen which.now)) (truth_answer result) }
-    ensures refused { OnErr result (segment.new ≡ segment.old) }
-    ensures absent { UnchangedWhere segment.old segment.new (LacksKey (key_seen which.now)) }
-{
-    match *which {
+    let (which, mut segment) = passed!(enter(h, key));
+    let answer = match which {
         Key::Name(name) => segment.destroy(&IndexKey::Name(name)),
         Key::Unique(kind) => segment.destroy(&IndexKey::Unique(kind)),
-        Key::Handle(handle) => {
-            segment.destroy_ptr(handle)?;
-            Ok(true)
-        }
+        Key::Handle(handle) => segment.destroy_ptr(handle).and(Ok(true)),
         Key::Anonymous => unreachable!(),
-    }
+    };
+    truth(answer, was_there, h, segment)
 }

@@ -4,18 +4,17 @@ ghost use Rattle.seg_types.specs.Values.{kind_of_scalar, value_of_scalar};
 ghost use Rattle.seg_types.specs.declared.kinds.Kind.TheVariants.{Map as MapOf};
 ghost use Rattle.segment_c.specs.Passed.{key_of, key_wrong, literal_in, or_else, value_wrong};
 ghost use Rattle.segment_c.specs.Series.{FillsFrom, FillsSeries, bits_of, pairs_from_at};
-ghost use Rattle.segment_c.specs.{Handles.ReadsHandle, Reads.IsCoded};
-ghost use Rattle.segment_manager.specs.{Directory.Directory, State.DenotesCurrent, objects.BoundObjects.IsBound};
+ghost use Rattle.segment_c.specs.{Handles.ReadsDirectory, Reads.IsCoded};
+ghost use Rattle.segment_manager.specs.objects.BoundObjects.{IsBound};
 
 use crate::calls::{enter_with, passed};
 use crate::codes::{DONE, code_of};
-use crate::keys::ObjectKey;
+use crate::keys::CKey;
 use crate::maps::map_of;
-use crate::segment_slot::{SegmentSlot, put};
+use crate::slot::{Slot, put};
 use crate::values::CScalar;
 use seg_types::{Scalar, ScalarKind, ScalarValue, WrittenValue, by_kind, by_value};
 use segment_manager::{Map, Object, Segment};
-use std::alloc::Global;
 
 /// The most pairs whose nodes are listed at once.
 const MOST: usize = 32;
@@ -72,23 +71,21 @@ impl Bits for u64 {
 /// number; the other places keep what they have.
 #[unsafe(no_mangle)]
 pub extern "C" fn zx_read_pairs_from(
-    alloc: Global,
-    h: &mut SegmentSlot,
-    key: &ObjectKey<'_>,
+    h: &mut Slot,
+    key: &CKey,
     from: &CScalar,
     past: bool,
     keys: &mut [i64],
     values: &mut [i64],
     read: &mut usize,
 ) -> u32
-    ensures read { ReadsHandle (or_else (key_wrong key.now) (value_wrong from.now)) result h.old h.new
-        (λ s. (d : Directory) → DenotesCurrent s.cut.bytes d
-        → IsCoded (λ ps. FillsSeries ps keys.old keys.new values.old values.new read.new) result
+    ensures read { ReadsDirectory (or_else (key_wrong key.now) (value_wrong from.now)) result h.old h.new
+        (λ d. IsCoded (λ ps. FillsSeries ps keys.old keys.new values.old values.new read.new) result
         (pairs_from_at d (key_of key.now) past (literal_in from.now))) }
     ensures outputs_on_error { 1 ≤ result
         → (keys.new ≡ keys.old) × (values.new ≡ values.old) × (read.new ≡ read.old) }
 {
-    let (which, bound, segment) = passed!(enter_with(alloc, h, key, from));
+    let (which, bound, segment) = passed!(enter_with(h, key, from));
     match map_of(&segment, &which) {
         Ok((object, of_keys, of_values)) => match bound.value_of(of_keys) {
             Ok(from) => {
@@ -142,7 +139,7 @@ fn read_from_key<K: Bits>(
     by_kind!(to, read)
 }
 
-/// Reads pairs of a located map of two types. It lists the nodes of up to 32 pairs at once.
+/// Reads pairs of a located map of two types. One pass of the loop lists the nodes of up to 32 pairs, or reads a pair.
 fn read_typed<K: Bits, V: Bits>(
     segment: &Segment,
     object: Object,
@@ -168,9 +165,7 @@ fn read_typed<K: Bits, V: Bits>(
             room = MOST.min(capacity - read);
             count = map.nodes_from(after, above, &mut nodes[..room]);
             at = 0;
-            if count == 0 {
-                return read;
-            }
+            continue;
         }
         match map.pair_of(nodes[at]) {
             Some(pair) => {

@@ -2,76 +2,53 @@
 ghost use Rattle.std.specs.Prelude.{◌≡◌, ◌≢◌, ◌≤◌};
 ghost use Rattle.seg_types.specs.{Commands.Get, declared.kinds.Kind.TheVariants.Strings as StringsKind};
 ghost use Rattle.segment_c.specs.Reads.{AreSizes, Copies, CopiesAnswer, IsCoded, CopiesBytes};
-ghost use Rattle.segment_c.specs.{Handles.ReadsHandle, Passed.key_of, Passed.key_wrong};
+ghost use Rattle.segment_c.specs.{Handles.ReadsDirectory, Handles.ReadsHandle, Passed.key_of, Passed.key_wrong};
 ghost use Rattle.segment_manager.specs.{containers.Contents.bytes_at, containers.Contents.sizes_at, Step.step_of_kind};
 ghost use Rattle.segment_manager.specs.{Directory.Directory, State.DenotesCurrent};
 
 use crate::calls::{enter, passed};
-use crate::codes::{DONE, code_of};
+use crate::codes::{DONE, code_for, code_of};
 use crate::images::copy_out;
-use crate::keys::ObjectKey;
-use crate::segment_slot::{SegmentSlot, put};
-use std::alloc::Global;
+use crate::keys::CKey;
+use crate::slot::{Slot, put};
 
 /// Counts the elements (`len`) and the places (`slots`) of the vector or string of a key. For the map of a key, `len`
 /// is the number of pairs and `slots` is 0.
 #[unsafe(no_mangle)]
-pub extern "C" fn zx_measure(
-    alloc: Global,
-    h: &mut SegmentSlot,
-    key: &ObjectKey<'_>,
-    len: &mut u64,
-    slots: &mut u64,
-) -> u32
-    ensures read { ReadsHandle (key_wrong key.now) result h.old h.new
-        (λ s. (d : Directory) → DenotesCurrent s.cut.bytes d
-        → IsCoded (AreSizes len.new slots.new) result (sizes_at d (key_of key.now))) }
+pub extern "C" fn zx_measure(h: &mut Slot, key: &CKey, len: &mut u64, slots: &mut u64) -> u32
+    ensures read { ReadsDirectory (key_wrong key.now) result h.old h.new
+        (λ d. IsCoded (AreSizes len.new slots.new) result (sizes_at d (key_of key.now))) }
     ensures outputs_on_error { 1 ≤ result → (len.new ≡ len.old) × (slots.new ≡ slots.old) }
 {
-    let (which, segment) = passed!(enter(alloc, h, key));
-    match segment.measure(&which) {
-        Ok((elements, capacity)) => {
-            *len = elements;
-            *slots = capacity;
-            put(DONE, h, segment)
-        }
-        Err(why) => put(code_of(why), h, segment),
-    }
+    let (which, segment) = passed!(enter(h, key));
+    let code =
+        code_for!(segment.measure(&which), (elements, capacity) => { *len = elements; *slots = capacity; });
+    put(code, h, segment)
 }
 
 /// Copies the bytes of the string of a key to the front of the buffer `text`, if the buffer has room for them. Sets
 /// `len` to the number of these bytes, even if the buffer is too short.
 #[unsafe(no_mangle)]
-pub extern "C" fn zx_read_string(
-    alloc: Global,
-    h: &mut SegmentSlot,
-    key: &ObjectKey<'_>,
-    text: &mut [u8],
-    len: &mut u64,
-) -> u32
-    ensures read { ReadsHandle (key_wrong key.now) result h.old h.new
-        (λ s. (d : Directory) → DenotesCurrent s.cut.bytes d
-        → Copies text.old text.new len.new result (bytes_at d (key_of key.now))) }
+pub extern "C" fn zx_read_string(h: &mut Slot, key: &CKey, text: &mut [u8], len: &mut u64) -> u32
+    ensures read { ReadsDirectory (key_wrong key.now) result h.old h.new
+        (λ d. Copies text.old text.new len.new result (bytes_at d (key_of key.now))) }
     ensures outputs_on_error { 1 ≤ result → text.new ≡ text.old }
     ensures length { 1 ≤ result → result ≢ 24 → len.new ≡ len.old }
 {
-    let (which, segment) = passed!(enter(alloc, h, key));
-    match segment.string_bytes(&which) {
-        Ok(bytes) => {
-            let code = copy_text(bytes, text, len);
-            put(code, h, segment)
-        }
-        Err(why) => put(code_of(why), h, segment),
-    }
+    let (which, segment) = passed!(enter(h, key));
+    let code = match segment.string_bytes(&which) {
+        Ok(bytes) => copy_text(bytes, text, len),
+        Err(why) => code_of(why),
+    };
+    put(code, h, segment)
 }
 
 /// Copies the string at `index` in the vector of strings of a key to the front of the buffer `text`, if the buffer has
 /// room for it. Sets `len` to the number of bytes of the string, even if the buffer is too short.
 #[unsafe(no_mangle)]
 pub extern "C" fn zx_read_text(
-    alloc: Global,
-    h: &mut SegmentSlot,
-    key: &ObjectKey<'_>,
+    h: &mut Slot,
+    key: &CKey,
     index: u64,
     text: &mut [u8],
     len: &mut u64,
@@ -83,14 +60,12 @@ pub extern "C" fn zx_read_text(
     ensures outputs_on_error { 1 ≤ result → text.new ≡ text.old }
     ensures length { 1 ≤ result → result ≢ 24 → len.new ≡ len.old }
 {
-    let (which, segment) = passed!(enter(alloc, h, key));
-    match segment.texts_get(&which, index) {
-        Ok(bytes) => {
-            let code = copy_text(bytes, text, len);
-            put(code, h, segment)
-        }
-        Err(why) => put(code_of(why), h, segment),
-    }
+    let (which, segment) = passed!(enter(h, key));
+    let code = match segment.texts_get(&which, index) {
+        Ok(bytes) => copy_text(bytes, text, len),
+        Err(why) => code_of(why),
+    };
+    put(code, h, segment)
 }
 
 /// Copies bytes to the front of the buffer `text`, if the buffer has room for them. Sets `len` to the number of these

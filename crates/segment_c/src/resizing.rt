@@ -1,18 +1,18 @@
 //! Segments that become longer or shorter, and that move into other regions.
-ghost use Rattle.std.specs.Prelude.{◌≡◌, ◌<◌, ◌≤◌, ◌⊎◌, Some, false, if◌then◌else◌, length, true};
+ghost use Rattle.std.specs.Prelude.{◌≡◌, ◌<◌, ◌≤◌, ◌⊎◌, false, if◌then◌else◌, length, true};
 ghost use Rattle.std.specs.declared.option.Option.TheVariants.{Some as Held};
 ghost use Rattle.grow_shrink.specs.Resized.{growth_refusal, room_of, shrink_refusal};
 ghost use Rattle.grow_shrink.specs.LargerRegion.{GrowsOrMovesOk};
 ghost use Rattle.raw_region.specs.Regions.{IsCapacity};
 ghost use Rattle.segment_c.specs.{Calls.HoldsSegment, Calls.RefusesArgument, Calls.RefusesClosed, Marked.RaisesMoves};
-ghost use Rattle.segment_c.specs.{Growing.growing_code, Growing.IsGrowthCode, Opening.capacity_wrong};
+ghost use Rattle.segment_c.specs.{Growing.IsGrowthCode, Opening.capacity_wrong};
 ghost use Rattle.segment_c.specs.Resizing.{MovesSegment, size_code};
 ghost use Rattle.segment_manager.specs.blocks.Resized.{Resizes, grown, shrunk};
 ghost use Rattle.segment_manager.specs.{Directory.Directory, State.DenotesCurrent, State.SegmentState};
 
 use crate::calls::passed;
 use crate::codes::{BAD_GROWTH, BAD_SIZE, DONE, READ_ONLY, SHORT_REGION, TOO_LARGE, no_memory};
-use crate::segment_slot::{SegmentSlot, put_changed, take};
+use crate::slot::{Slot, put_changed, take};
 use grow_shrink::{GrowError, GrowOrMoveError, copy_into, grow_or_move};
 use image_check::MemoryFault;
 use raw_region::RawRegion;
@@ -32,7 +32,7 @@ pub fn is_capacity(bytes: u64) -> bool
 
 /// Makes the segment as short as its last block lets it be.
 #[unsafe(no_mangle)]
-pub extern "C" fn zx_shrink(alloc: Global, h: &mut SegmentSlot) -> u32
+pub extern "C" fn zx_shrink(h: &mut Slot) -> u32
     ensures closed { RefusesClosed 0 result h.old.segment.value h.new.segment.value }
     ensures code { (s : SegmentState) → h.old.segment.value ≡ Held s → (d : Directory)
         → DenotesCurrent s.cut.bytes d → result ≡ size_code (shrink_refusal s.mode) }
@@ -41,7 +41,7 @@ pub extern "C" fn zx_shrink(alloc: Global, h: &mut SegmentSlot) -> u32
     ensures unchanged_on_error { 1 ≤ result → h.new.segment.value ≡ h.old.segment.value }
     ensures marks { RaisesMoves result h.old.marks h.new.marks }
 {
-    let mut segment = passed!(take(alloc, h));
+    let mut segment = passed!(take(h));
     let code = match grow_shrink::shrink_to_fit(&mut segment) {
         Ok(()) => DONE,
         Err(why) => code_of_growth(why),
@@ -65,7 +65,7 @@ fn code_of_growth(why: GrowError) -> u32
 /// Moves the segment to the front of a region of `capacity` bytes. Keys and handles stay good. One in memory that C
 /// lent stays there, with the code 27.
 #[unsafe(no_mangle)]
-pub extern "C" fn zx_relocate(alloc: Global, h: &mut SegmentSlot, capacity: u64) -> u32
+pub extern "C" fn zx_relocate(h: &mut Slot, capacity: u64) -> u32
     ensures stop { RefusesArgument (capacity_wrong capacity) result h.old.segment.value h.new.segment.value }
     ensures closed { RefusesClosed (capacity_wrong capacity) result h.old.segment.value h.new.segment.value }
     ensures changes { (s : SegmentState) → h.old.segment.value ≡ Held s → result ≡ 0
@@ -81,11 +81,11 @@ pub extern "C" fn zx_relocate(alloc: Global, h: &mut SegmentSlot, capacity: u64)
     if !is_capacity(capacity) {
         return BAD_SIZE;
     }
-    let mut segment = passed!(take(alloc, h));
+    let mut segment = passed!(take(h));
     let code = if h.marks.is_lent {
         SHORT_REGION
     } else {
-        relocate(alloc, &mut segment, capacity)
+        relocate(h.alloc, &mut segment, capacity)
     };
     put_changed(code, h, segment)
 }
@@ -113,7 +113,7 @@ fn relocate(alloc: Global, segment: &mut Segment, capacity: u64) -> u32
 /// Makes the segment longer by `extra` bytes, which are free, in a larger region if its own has no room. One in
 /// memory that C lent stays there, with the code 27 if that has no room.
 #[unsafe(no_mangle)]
-pub extern "C" fn zx_grow(alloc: Global, h: &mut SegmentSlot, extra: u64) -> u32
+pub extern "C" fn zx_grow(h: &mut Slot, extra: u64) -> u32
     ensures closed { RefusesClosed 0 result h.old.segment.value h.new.segment.value }
     ensures code { (s : SegmentState) → h.old.segment.value ≡ Held s → h.old.marks.is_lent ≡ false → (d : Directory)
         → DenotesCurrent s.cut.bytes d → IsGrowthCode s extra result d }
@@ -127,47 +127,18 @@ pub extern "C" fn zx_grow(alloc: Global, h: &mut SegmentSlot, extra: u64) -> u32
     ensures unchanged_on_error { 1 ≤ result → h.new.segment.value ≡ h.old.segment.value }
     ensures marks { RaisesMoves result h.old.marks h.new.marks }
 {
-    let mut segment = passed!(take(alloc, h));
+    let mut segment = passed!(take(h));
     let code = if h.marks.is_lent {
-        grow_here(&mut segment, extra)
+        match grow_shrink::grow(&mut segment, extra) {
+            Ok(()) => DONE,
+            Err(why) => code_of_growth(why),
+        }
     } else {
-        grow(alloc, &mut segment, extra)
+        match grow_or_move(h.alloc, &mut segment, extra) {
+            Ok(()) => DONE,
+            Err(GrowOrMoveError::Growth(reason)) => code_of_growth(reason),
+            Err(GrowOrMoveError::OutOfMemory(refusal)) => no_memory(MemoryFault::Bytes(refusal)),
+        }
     };
     put_changed(code, h, segment)
-}
-
-/// Makes a segment longer by `extra` bytes, in a larger region if its own has no room.
-fn grow(alloc: Global, segment: &mut Segment, extra: u64) -> u32
-    ensures code { (d : Directory) → DenotesCurrent segment.old.cut.bytes d
-        → IsGrowthCode segment.old extra result d }
-    ensures growth { result ≡ 0 → GrowsOrMovesOk segment.old segment.new extra }
-    ensures unchanged_on_error { 1 ≤ result → segment.new ≡ segment.old }
-{
-    match grow_or_move(alloc, segment, extra) {
-        Ok(()) => DONE,
-        Err(why) => code_of_growing(why),
-    }
-}
-
-/// Returns the code by which a segment does not become longer, though it may move.
-fn code_of_growing(why: GrowOrMoveError) -> u32
-    ensures code { result ≡ growing_code why }
-{
-    match why {
-        GrowOrMoveError::Growth(reason) => code_of_growth(reason),
-        GrowOrMoveError::OutOfMemory(refusal) => no_memory(MemoryFault::Bytes(refusal)),
-    }
-}
-
-/// Makes a segment longer whose region C lent: it stays there.
-fn grow_here(segment: &mut Segment, extra: u64) -> u32
-    ensures code { (d : Directory) → DenotesCurrent segment.old.cut.bytes d
-        → result ≡ size_code (growth_refusal segment.old.mode d.size extra (room_of segment.old.cut)) }
-    ensures growth { result ≡ 0 → Resizes segment.old segment.new (λ d. grown d extra) }
-    ensures unchanged_on_error { 1 ≤ result → segment.new ≡ segment.old }
-{
-    match grow_shrink::grow(segment, extra) {
-        Ok(()) => DONE,
-        Err(why) => code_of_growth(why),
-    }
 }

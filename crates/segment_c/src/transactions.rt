@@ -1,26 +1,25 @@
 //! Several calls as one: the segment is copied before them, and may be put back as it was.
 ghost use Rattle.std.specs.declared.option.Option.TheVariants.{None as NoSegment, Some as Held};
-ghost use Rattle.std.specs.Prelude.{◌≡◌, ◌≤◌, MatchResult, false, length, nat_le};
+ghost use Rattle.std.specs.Prelude.{◌≡◌, ◌≤◌, false, length};
 ghost use Rattle.grow_shrink.specs.Resized.{room_of};
 ghost use Rattle.raw_region.specs.Memory.{SameSurroundings, cut_at, whole};
 ghost use Rattle.segment_c.specs.Transactions.{IsBeginCode, CopiesSegment, RollsBack, rollback_code};
 ghost use Rattle.segment_c.specs.{Calls.HoldsSegment, Calls.RefusesClosed, Marked.PlacesSegment, Marked.RaisesMoves};
-ghost use Rattle.segment_manager.specs.{State.IsSegment, State.SegmentState, Step.is_read_only};
+ghost use Rattle.segment_manager.specs.{State.IsSegment, State.SegmentState};
 
 use crate::calls::passed;
 use crate::codes::{DONE, READ_ONLY, SHORT_REGION, boxed_or_not, no_memory};
-use crate::segment_slot::{SegmentSlot, put, put_changed, put_new, take};
+use crate::slot::{Slot, put, put_changed, put_new, take};
 use grow_shrink::{copy_into, region_for, size_of};
 use image_check::MemoryFault;
 use raw_region::Window;
 use segment_manager::unchecked::adopt;
 use segment_manager::{Mode, Segment};
-use std::alloc::Global;
 
 /// Copies the segment to another handle, from which `zx_rollback` puts it back. What that had is freed. It is as it was
 /// unless the code is 0.
 #[unsafe(no_mangle)]
-pub extern "C" fn zx_begin(alloc: Global, h: &mut SegmentSlot, before: &mut SegmentSlot) -> u32
+pub extern "C" fn zx_begin(h: &mut Slot, before: &mut Slot) -> u32
     ensures closed { RefusesClosed 0 result h.old.segment.value h.new.segment.value }
     ensures code { (s : SegmentState) → h.old.segment.value ≡ Held s → IsBeginCode s.mode result }
     ensures copy { (s : SegmentState) → h.old.segment.value ≡ Held s → result ≡ 0
@@ -30,37 +29,24 @@ pub extern "C" fn zx_begin(alloc: Global, h: &mut SegmentSlot, before: &mut Segm
     ensures marks { h.new.marks ≡ h.old.marks }
     ensures placement { PlacesSegment result before.old.marks before.new.marks false }
 {
-    let segment = passed!(take(alloc, h));
-    let code = match copy_of(alloc, &segment) {
-        Ok(copy) => put_new(before, copy, false),
-        Err(code) => code,
+    let segment = passed!(take(h));
+    if segment.mode() == Mode::ReadOnly {
+        return put(READ_ONLY, h, segment);
+    }
+    let code = match region_for(h.alloc, size_of(&segment)) {
+        Ok(region) => match boxed_or_not(h.alloc, copy_into(&segment, region)) {
+            Ok(copy) => put_new(before, copy, false),
+            Err(code) => code,
+        },
+        Err(refusal) => no_memory(MemoryFault::Bytes(refusal)),
     };
     put(code, h, segment)
-}
-
-/// Copies a segment to a region of its own, in a box.
-///
-/// # Errors
-///
-/// The code.
-fn copy_of(alloc: Global, segment: &Segment) -> Result<Box<Segment>, u32>
-    ensures { MatchResult result (λ copy. CopiesSegment segment.now copy.value
-        × IsBeginCode segment.now.mode 0) (λ code.
-        (1 ≤ code) × IsBeginCode segment.now.mode code) }
-{
-    if is_read_only(segment) {
-        return Err(READ_ONLY);
-    }
-    match region_for(alloc, size_of(segment)) {
-        Ok(region) => boxed_or_not(alloc, copy_into(segment, region)),
-        Err(refusal) => Err(no_memory(MemoryFault::Bytes(refusal))),
-    }
 }
 
 /// Makes the segment again what `zx_begin` copied, where it lies now, and closes the copy. Both are as they were unless
 /// the code is 0.
 #[unsafe(no_mangle)]
-pub extern "C" fn zx_rollback(alloc: Global, h: &mut SegmentSlot, before: &mut SegmentSlot) -> u32
+pub extern "C" fn zx_rollback(h: &mut Slot, before: &mut Slot) -> u32
     ensures closed { RefusesClosed 0 result h.old.segment.value h.new.segment.value }
     ensures absent { before.old.segment.value ≡ NoSegment → result ≡ 16 }
     ensures code { (s t : SegmentState) → h.old.segment.value ≡ Held s → before.old.segment.value ≡ Held t
@@ -73,8 +59,8 @@ pub extern "C" fn zx_rollback(alloc: Global, h: &mut SegmentSlot, before: &mut S
     ensures marks { RaisesMoves result h.old.marks h.new.marks }
     ensures placement { PlacesSegment result before.old.marks before.new.marks false }
 {
-    let segment = passed!(take(alloc, h));
-    let mut copy = match take(alloc, before) {
+    let segment = passed!(take(h));
+    let mut copy = match take(before) {
         Ok(copy) => copy,
         Err(code) => return put(code, h, segment),
     };
@@ -94,28 +80,15 @@ fn code_to_put_back(segment: &Segment, copy: &Segment) -> u32
     ensures code { result ≡ rollback_code segment.now copy.now }
     ensures room { result ≡ 0 → length copy.now.cut.bytes ≤ room_of segment.now.cut }
 {
-    if is_read_only(segment) {
+    if segment.mode() == Mode::ReadOnly {
         return READ_ONLY;
     }
-    if has_room(segment, size_of(copy)) {
+    let (size, len) = (size_of(segment), size_of(copy));
+    let (beyond, left) = (len.saturating_sub(size), segment.region_left());
+    if beyond <= left {
         return DONE;
     }
     SHORT_REGION
-}
-
-/// Tells whether a segment is open for reading.
-fn is_read_only(segment: &Segment) -> bool
-    ensures { result ≡ is_read_only segment.now.mode }
-{
-    segment.mode() == Mode::ReadOnly
-}
-
-/// Tells whether a segment's region has room for `len` bytes.
-fn has_room(segment: &Segment, len: u64) -> bool
-    ensures { result ≡ nat_le len (room_of segment.now.cut) }
-{
-    let size = size_of(segment);
-    len <= size || len - size <= segment.region_left()
 }
 
 /// Returns the segment whose image the bytes are, at the front of the region of another, and open as that is.

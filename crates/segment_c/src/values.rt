@@ -1,5 +1,5 @@
 //! The values that C passes and is given.
-ghost use Rattle.std.specs.Prelude.{◌≡◌, IfSome, Some, None, MatchResult, option_map};
+ghost use Rattle.std.specs.Prelude.{◌≡◌, IfSome, Some, None, MatchResult};
 ghost use Rattle.seg_types.specs.declared.kinds.ScalarKind.TheVariants.{I64};
 ghost use Rattle.seg_types.specs.Values.{kind_of_scalar, value_of_scalar};
 ghost use Rattle.segment_c.specs.Passed.{scalar_in};
@@ -26,12 +26,25 @@ impl CScalar {
     /// # Errors
     ///
     /// The code by which it is refused.
+    #[tactic(auto, unfolding(crate::specs::Passed::scalar_in, seg_types::specs::Kinds::scalar_of_code))]
     pub fn scalar(&self) -> Result<ScalarValue, u32>
         ensures { MatchResult result (λ value.
             scalar_in self.now ≡ Some (kind_of_scalar value, value_of_scalar value)) (λ code. (code ≡ 20)
             × (scalar_in self.now ≡ None)) }
     {
-        self.read().ok_or(BAD_VALUE)
+        let value = match self.kind {
+            1 => match self.natural {
+                0 => Some(ScalarValue::Bool(false)),
+                1 => Some(ScalarValue::Bool(true)),
+                _ => None,
+            },
+            2 => u8::try_from(self.natural).ok().map(ScalarValue::U8),
+            3 => i32::try_from(self.number).ok().map(ScalarValue::I32),
+            4 => Some(ScalarValue::I64(self.number)),
+            5 => Some(ScalarValue::U64(self.natural)),
+            _ => None,
+        };
+        value.ok_or(BAD_VALUE)
     }
 
     /// Returns the number if the scalar is an `i64`.
@@ -42,30 +55,6 @@ impl CScalar {
     {
         match self.kind {
             4 => Some(self.number),
-            _ => None,
-        }
-    }
-
-    /// Returns the scalar that is passed, if there is one.
-    #[tactic(auto, unfolding(crate::specs::Passed::scalar_in, seg_types::specs::Kinds::scalar_of_code))]
-    fn read(&self) -> Option<ScalarValue>
-        ensures { option_map (λ value. (kind_of_scalar value, value_of_scalar value)) result ≡ scalar_in self.now }
-    {
-        let CScalar {
-            kind,
-            number,
-            natural,
-        } = *self;
-        match kind {
-            1 => match natural {
-                0 => Some(ScalarValue::Bool(false)),
-                1 => Some(ScalarValue::Bool(true)),
-                _ => None,
-            },
-            2 => u8::try_from(natural).ok().map(ScalarValue::U8),
-            3 => i32::try_from(number).ok().map(ScalarValue::I32),
-            4 => Some(ScalarValue::I64(number)),
-            5 => Some(ScalarValue::U64(natural)),
             _ => None,
         }
     }

@@ -2,7 +2,7 @@
 ghost use denote.RawPtr.{block_ptr};
 ghost use Rattle.std.specs.Prelude.{◌≡◌, ◌≤◌, IfOk, true};
 ghost use Rattle.seg_types.specs.{Keys.key_seen, Names.ByHandle};
-ghost use Rattle.segment_c.specs.{Handles.ReadsHandle, Views.HasView, Views.IsView, Views.TellsView, Views.writable};
+ghost use Rattle.segment_c.specs.Views.{HasView, IsView, TellsView, writable};
 ghost use Rattle.segment_c.specs.{Calls.HoldsSegment, Calls.PerformsRead, Passed.key_of, Passed.key_wrong};
 ghost use Rattle.segment_c.specs.{Marked.LendsRange, Reads.IsCoded};
 ghost use Rattle.segment_manager.specs.containers.ElementRuns.{IsRunOf, run_at};
@@ -11,12 +11,11 @@ ghost use Rattle.segment_manager.specs.objects.Found.{is_object_at};
 
 use crate::calls::{enter, passed};
 use crate::codes::{DONE, READ_ONLY, code_of};
-use crate::keys::ObjectKey;
-use crate::segment_slot::{Marks, SegmentSlot, put, put_taken_back, take};
+use crate::keys::CKey;
+use crate::slot::{Marks, Slot, put, put_taken_back, take};
 use seg_types::{Handle, Key, Kind, Refusal, ScalarKind};
 use segment_manager::unchecked::{element_run_of, object_here, object_of_kind};
 use segment_manager::{ElementRun, Mode, Segment, is_remembered};
-use std::alloc::Global;
 
 /// The kind of vectors of `i64`.
 const NUMBERS: Kind = Kind::Vector(ScalarKind::I64);
@@ -41,39 +40,29 @@ pub struct CView {
 /// Says where the elements of the object of a key stand: of scalars, of a vector of scalars, or of a string, which has
 /// bytes. They stand there until the counter of the handle's changes rises.
 #[unsafe(no_mangle)]
-pub extern "C" fn zx_view(
-    alloc: Global,
-    h: &mut SegmentSlot,
-    key: &ObjectKey<'_>,
-    view: &mut CView,
-) -> u32
+pub extern "C" fn zx_view(h: &mut Slot, key: &CKey, view: &mut CView) -> u32
     ensures elements { TellsView (key_wrong key.now) (key_of key.now) result h.old h.new view.old view.new }
 {
     match key.as_handle() {
-        Some(handle) => zx_view_of(alloc, h, handle, view),
-        None => view_any(alloc, h, key, view),
+        Some(handle) => zx_view_of(h, handle, view),
+        None => view_any(h, key, view),
     }
 }
 
 /// Says where the elements of the object of a handle stand, which can be any number, as `zx_view` does.
 #[inline(always)]
 #[unsafe(no_mangle)]
-pub extern "C" fn zx_view_of(
-    alloc: Global,
-    h: &mut SegmentSlot,
-    handle: u64,
-    view: &mut CView,
-) -> u32
+pub extern "C" fn zx_view_of(h: &mut Slot, handle: u64, view: &mut CView) -> u32
     ensures elements { TellsView 0 (ByHandle handle) result h.old h.new view.old view.new }
 {
-    let segment = passed!(take(alloc, h));
+    let segment = passed!(take(h));
     if is_remembered(&segment, handle) {
         let run = run_here(&segment, handle);
         let code = fill_view(&segment, &Key::Handle(handle), run, &h.marks, view);
         return put_taken_back(code, h, segment);
     }
     put_taken_back(DONE, h, segment);
-    view_any(alloc, h, &ObjectKey::of_handle(handle), view)
+    view_any(h, &CKey::of_handle(handle), view)
 }
 
 /// Returns where the elements of the object of a handle stand. A vector of `i64`, the kind that is read most, is found
@@ -92,10 +81,10 @@ fn run_here(segment: &Segment, handle: Handle) -> Result<ElementRun, Refusal>
 
 /// Says where the elements of the object of a key stand, for any form of key.
 #[inline(never)]
-fn view_any(alloc: Global, h: &mut SegmentSlot, key: &ObjectKey<'_>, view: &mut CView) -> u32
+fn view_any(h: &mut Slot, key: &CKey, view: &mut CView) -> u32
     ensures elements { TellsView (key_wrong key.now) (key_of key.now) result h.old h.new view.old view.new }
 {
-    let (which, segment) = passed!(enter(alloc, h, key));
+    let (which, segment) = passed!(enter(h, key));
     let run = segment.element_run(&which);
     let code = fill_view(&segment, &which, run, &h.marks, view);
     put(code, h, segment)
@@ -103,12 +92,7 @@ fn view_any(alloc: Global, h: &mut SegmentSlot, key: &ObjectKey<'_>, view: &mut 
 
 /// Says where the elements of the object of a key stand, for C to write there; the handle notes it.
 #[unsafe(no_mangle)]
-pub extern "C" fn zx_view_mut(
-    alloc: Global,
-    h: &mut SegmentSlot,
-    key: &ObjectKey<'_>,
-    view: &mut CView,
-) -> u32
+pub extern "C" fn zx_view_mut(h: &mut Slot, key: &CKey, view: &mut CView) -> u32
     ensures read { PerformsRead (key_wrong key.now) result h.old.segment.value h.new.segment.value
         (λ s. (d : Directory) → DenotesCurrent s.cut.bytes d
         → IsCoded (IsView view.new) result (writable s.mode (run_at d (key_of key.now)))) }
@@ -117,7 +101,7 @@ pub extern "C" fn zx_view_mut(
     ensures outputs_on_error { 1 ≤ result → view.new ≡ view.old }
     ensures marks { LendsRange result h.old.marks h.new.marks }
 {
-    let (which, segment) = passed!(enter(alloc, h, key));
+    let (which, segment) = passed!(enter(h, key));
     if segment.mode() == Mode::ReadOnly {
         return put(READ_ONLY, h, segment);
     }

@@ -1,8 +1,8 @@
 -- A walk over the pairs of a map from a key on: the pairs that were read, and the nodes that are listed ahead.
 use Rattle.std.proofs.Common.{◌≡◌, refl, sym, ap, subst, ◌∙◌, ℕ, suc, ◌+◌, ◌≤◌, ◌<◌, ℤ, Bool, true, not, Ok, List, []}
-use Rattle.std.proofs.Common.{None, Option, Some, ◌∷◌}
-use Rattle.std.proofs.Common.{◌++◌, arith, drop, get_or, int_lt, length, map, min, slice_set, take}
-use Rattle.std.proofs.lemmas.List.{get_or-map, get_or-take, length-append, length-drop, length-map, length-take}
+use Rattle.std.proofs.Common.{◌++◌, ◌∷◌, None, Option, Some}
+use Rattle.std.proofs.Common.{arith, drop, get_or, int_lt, length, map, min, slice_set, take}
+use Rattle.std.proofs.lemmas.List.{get_or-map, get_or-take, length-drop, length-map, length-take}
 use Rattle.std.proofs.lemmas.List.{take-append-le, take-map, take_min}
 use Rattle.std.proofs.lemmas.List.Edits.{paste_more}
 use Rattle.std.proofs.Math.Seq.{drop-cons, paste, take-append_seam}
@@ -51,7 +51,7 @@ listed-first qs list count e =
     )
 
 -- the part of a list from an index on, up to its first `count` elements
-pub part-begins : (nodes : List ℕ) (at count d : ℕ) → at < count → count ≤ length nodes
+part-begins : (nodes : List ℕ) (at count d : ℕ) → at < count → count ≤ length nodes
     → drop at (take count nodes) ≡ get_or nodes at d ∷ drop (at + 1) (take count nodes)
 part-begins nodes at count d less few =
     drop-cons (take count nodes) at d (omega (arith, less, few, length-take count nodes))
@@ -83,30 +83,26 @@ has-all f all row0 row n had =
 
 -- ---- the walk
 
-module _ (its : List NumberPair) (past : Bool) (z : ℤ) (keys0 values0 : List ℤ) where
-  -- the pairs from the key on
-  abbrev pub all : List NumberPair
-  all = pairs_past int_lt past z its
+-- This many of all pairs are read, which are pairs of a map. The others are above a key, or from it on; nodes of the
+-- first of them are listed, and of all of them if the list is short.
+pub record IsAt (its all : List NumberPair) (keys0 values0 : List ℤ) (read : ℕ) (above : Bool) (after : ℤ)
+    (nodes : List ℕ) (short : Type 0) (keys values : List ℤ) : Type 0
+  where
+    pub there : read ≤ length all
+    pub rest : pairs_past int_lt above after its ≡ drop read all
+    pub ahead : nodes ≡ nodes_of_pairs (take (length nodes) (drop read all))
+    pub end : short → length all ≡ read + length nodes
+    pub keys_are : HasBits key_bits all keys0 keys read
+    pub values_are : HasBits value_bits all values0 values read
 
-  -- This many pairs are read. The others are above a key, or from it on; nodes of the first of them are listed, and of
-  -- all of them if the list is short.
-  pub record IsAt (read : ℕ) (above : Bool) (after : ℤ) (nodes : List ℕ) (short : Type 0)
-      (keys values : List ℤ) : Type 0
-    where
-      pub there : read ≤ length all
-      pub rest : pairs_past int_lt above after its ≡ drop read all
-      pub ahead : nodes ≡ nodes_of_pairs (take (length nodes) (drop read all))
-      pub end : short → length all ≡ read + length nodes
-      pub keys_are : HasBits key_bits all keys0 keys read
-      pub values_are : HasBits value_bits all values0 values read
-
+module _ {its all : List NumberPair} {keys0 values0 : List ℤ} where
   module _ {read : ℕ} {above : Bool} {after : ℤ} {nodes : List ℕ} {short : Type 0} {keys values : List ℤ}
-      (w : IsAt read above after nodes short keys values) where
+      (w : IsAt its all keys0 values0 read above after nodes short keys values) where
     -- nodes are listed
-    pub listed : (old new rest : List ℕ) (count : ℕ) → count ≡ count_read above after (length old) its
-        → new ≡ nodes_read above after (length old) old its → count ≤ length new
-        → IsAt read above after (take count (new ++ rest)) (count < length old) keys values
-    listed old new rest count counted is few =
+    pub listed : (old new rest : List ℕ) (count : ℕ) {fewer : Type 0} → count ≡ count_read above after (length old) its
+        → new ≡ nodes_read above after (length old) old its → count ≤ length new → (fewer → count < length old)
+        → IsAt its all keys0 values0 read above after (take count (new ++ rest)) fewer keys values
+    listed old new rest count counted is few less =
         let qs = drop read all in
         let many : count ≡ min (length old) (length qs) = counted ∙ ap (λ qs. min (length old) (length qs)) w.rest in
         let f = listed-first qs old count many in
@@ -117,22 +113,10 @@ module _ (its : List NumberPair) (past : Bool) (z : ℤ) (keys0 values0 : List �
           there = w.there;
           rest = w.rest;
           ahead = same ∙ ap (λ n. nodes_of_pairs (take n qs)) (sym (ap length same ∙ f.1));
-          end = λ short. omega (arith, short, many, ap length same ∙ f.1, w.there, length-drop read all);
+          end = λ s. omega (arith, less s, many, ap length same ∙ f.1, w.there, length-drop read all);
           keys_are = w.keys_are;
           values_are = w.values_are;
         }
-
-    -- the list is a part of an array
-    pub moved : {nodes' : List ℕ} {short' : Type 0} → nodes' ≡ nodes → (short' → short)
-        → IsAt read above after nodes' short' keys values
-    moved same fewer = record {
-      there = w.there;
-      rest = w.rest;
-      ahead = same ∙ w.ahead ∙ ap (λ (ns : List ℕ). nodes_of_pairs (take (length ns) (drop read all))) (sym same);
-      end = λ s. w.end (fewer s) ∙ ap (λ (ns : List ℕ). read + length ns) (sym same);
-      keys_are = w.keys_are;
-      values_are = w.values_are;
-    }
 
     -- all pairs that there are places for are read
     pub filled : read ≡ min (min (length keys0) (length values0)) (length all)
@@ -143,59 +127,19 @@ module _ (its : List NumberPair) (past : Bool) (z : ℤ) (keys0 values0 : List �
       values_are = has-all value_bits all values0 values read w.values_are;
     }
 
-  -- A node is listed in an array, and the next pair is read there.
-  pub record IsReady (read : ℕ) (above : Bool) (after : ℤ) (at count room : ℕ) (nodes : List ℕ)
-      (keys values : List ℤ) : Type 0
-    where
-      pub less : at < count
-      pub few : count ≤ 32
-      pub long : length nodes ≡ 32
-      pub walk : IsAt read above after (drop at (take count nodes)) (count < room) keys values
+  -- the next pair, of a map whose keys rise, at the first node of a part of an array
+  module _ (rises : is_rising int_lt its ≡ true) {read : ℕ} {above : Bool} {after : ℤ} (list : List ℕ) (at count : ℕ)
+      {short : Type 0} {keys values : List ℤ} (w : IsAt its all keys0 values0 read above after
+      (drop at (take count list)) short keys values) (less : at < count) (fits : count ≤ length list) where
+    abbrev node : ℕ
+    node = get_or list at 0
 
-  module _ {read : ℕ} {above : Bool} {after : ℤ} {keys values : List ℤ} where
-    -- a node was left
-    pub still-ready : {at count room at' count' room' : ℕ} {nodes nodes' : List ℕ}
-        → IsAt read above after (drop at (take count nodes)) (count < room) keys values → length nodes ≡ 32
-        → at ≤ count → count ≤ 32 → (at ≡ count → ⊥) → nodes' ≡ nodes → at' ≡ at → count' ≡ count → room' ≡ room
-        → IsReady read above after at' count' room' nodes' keys values
-    still-ready w long listed few some e f g h = record {
-      less = omega (arith, listed, some, f, g);
-      few = omega (arith, few, g);
-      long = ap length e ∙ long;
-      walk = moved w (λ i. drop (f i) (take (g i) (e i))) (λ short. omega (arith, short, g, h));
-    }
+    abbrev rest : List ℕ
+    rest = drop (at + 1) (take count list)
 
-    -- nodes were listed
-    pub listed-ready : (nodes : List ℕ) {nodes0 : List ℕ} {short : Type 0} {room count' room' at' count : ℕ}
-        {new nodes' : List ℕ}
-        → IsAt read above after nodes0 short keys values → length nodes ≡ 32 → room ≤ 32
-        → length new ≡ length (take room nodes)
-        → count ≡ count_read above after (length (take room nodes)) its
-        → new ≡ nodes_read above after (length (take room nodes)) (take room nodes) its → count ≤ length new
-        → (count ≡ 0 → ⊥) → nodes' ≡ new ++ drop room nodes → at' ≡ 0 → count' ≡ count → room' ≡ room
-        → IsReady read above after at' count' room' nodes' keys values
-    listed-ready nodes {room = room} {count = count} {new = new} w long l same counted is few some e f g h =
-        let part = length-take room nodes in
-        record {
-          less = omega (arith, some, f, g);
-          few = omega (arith, g, few, same, part, l);
-          long = ap length e ∙ omega (
-            arith,
-            length-append new (drop room nodes),
-            length-drop room nodes,
-            same,
-            part,
-            long,
-            l,
-          );
-          walk = moved (listed w (take room nodes) new (drop room nodes) count counted is few)
-              (λ i. drop (f i) (take (g i) (e i))) (λ short. omega (arith, short, g, h, part, long, l));
-        }
+    are : drop at (take count list) ≡ node ∷ rest
+    are = part-begins list at count 0 less fits
 
-  -- the next pair
-  module _ (rises : is_rising int_lt its ≡ true) {read : ℕ} {above : Bool} {after : ℤ} {nodes : List ℕ}
-      {short : Type 0} {keys values : List ℤ} (w : IsAt read above after nodes short keys values) (node : ℕ)
-      (rest : List ℕ) (are : nodes ≡ node ∷ rest) where
     next : FirstAhead node rest (drop read all)
     next = first-ahead node rest (drop read all)
         (subst (λ ns. ns ≡ nodes_of_pairs (take (length ns) (drop read all))) are w.ahead)
@@ -224,7 +168,7 @@ module _ (its : List NumberPair) (past : Bool) (z : ℤ) (keys0 values0 : List �
     -- and the walk goes on
     pub goes-on : (x y i j : ℤ) → AllByRecursion (λ p. pair_node p ≡ node → Some (x, y) ≡ Some (item_of p)) its
         → i ≡ bits_of x → j ≡ bits_of y → read < length keys0 → read < length values0
-        → IsAt (read + 1) true x rest short (slice_set keys read i) (slice_set values read j)
+        → IsAt its all keys0 values0 (read + 1) true x rest short (slice_set keys read i) (slice_set values read j)
     goes-on x y i j reads e f k v =
         let p = next.pair in
         let it : Some (x, y) ≡ Some (item_of p) = first-reads (Some (x, y)) reads in

@@ -1,12 +1,12 @@
 -- What the first bytes of an image say of its size, and which codes answer an image that is not opened.
-use Rattle.std.proofs.Common.{◌≡◌, ◌≢◌, ◌≤◌, inl, inr, ℕ, Bool, true, false, ◌&&◌, ◌<◌, List, [], ◌∷◌, Some, refl}
+use Rattle.std.proofs.Common.{◌≡◌, ◌≤◌, inl, inr, ℕ, Bool, true, false, ◌&&◌, ◌<◌, List, [], ◌∷◌, Some, refl}
 use Rattle.std.proofs.Common.{ap, length, IsTrue, arith}
 use Rattle.std.specs.Prelude.{nat_le, nat_lt, find, min, if◌then◌else◌}
 use Rattle.std.proofs.lemmas.Bool.{and_from, and_parts, cond-true, false≢true, le-leb, lt-ltb, or_right}
 use Rattle.raw_region.specs.Format.{current}
 use Rattle.block_tags.specs.Format.{is_legal_size}
 use Rattle.image_check.specs.declared.errors.OpenError.{OpenError}
-use Rattle.image_check.specs.{Causes.IsShown, Classes.class_of, Classes.holds}
+use Rattle.image_check.specs.{Classes.class_of, Classes.holds}
 use Rattle.image_check.specs.Opening.{IsOpenCause, IsTooSmallFor, IsUndecided, as_given}
 use Rattle.image_check.proofs.Facts.{refused-class}
 use Rattle.image_check.specs.declared.classes.ImageClass.TheVariants.{Truncated, BadMagic, UnsupportedVersion, BadSize}
@@ -14,8 +14,8 @@ use Rattle.image_check.specs.declared.classes.ImageClass.TheVariants.{BadReserve
 use Rattle.image_check.specs.declared.classes.ImageClass.TheVariants.{BadObject, SharedBlock, BadContainer, OrphanBlock}
 use Rattle.image_check.specs.declared.errors.OpenError.TheVariants.{Image, RegionTooSmall, OutOfMemory, ReadFault}
 use Rattle.image_check.specs.EarlyTests.{has_front, has_magic, has_version, size_word}
-use Rattle.segment_c.specs.Opening.{IsNoImage, IsPlaced, IsTooLongForRegion, IsWhyNotOpened, size_said}
-use Rattle.segment_c.specs.Opening.{code_of_cause, place_of_cause}
+use Rattle.segment_c.specs.Opening.{IsNoImage, IsTooLongForRegion, IsWhyNotOpened, size_said}
+use Rattle.segment_c.specs.Opening.{code_of_cause}
 
 -- ---- the size
 
@@ -26,7 +26,7 @@ said_front image l f = ap (λ (e : Bool).
     (and_from (nat_le 24 (length image)) (has_front current image) (le-leb 24 (length image) l) f)
 
 -- and one that a segment has
-pub legal_most : (n : ℕ) → IsTrue (is_legal_size n) → n ≤ 1073741824
+legal_most : (n : ℕ) → IsTrue (is_legal_size n) → n ≤ 1073741824
 legal_most n l = grind arith
 
 cut_by : (c : Bool) (n k : ℕ) → k < (if c then n else 0) → (c ≡ true) × (k < n)
@@ -50,14 +50,6 @@ said_more image l =
 -- bytes that are there are read
 given_read : (image : List ℕ) → IsUndecided current (as_given image) → ⊥
 given_read image u = false≢true u.failed
-
--- so no reader failed
-pub not_read_fault : (image : List ℕ) (capacity : ℕ) (cause : OpenError)
-    → IsOpenCause current (as_given image) 0 capacity cause → cause ≢ ReadFault
-not_read_fault image capacity (Image v) why e = absurd (cc)
-not_read_fault image capacity RegionTooSmall why e = absurd (cc)
-not_read_fault image capacity (OutOfMemory refusal) why e = absurd (cc)
-not_read_fault image capacity ReadFault why e = given_read image why
 
 module _ (image : List ℕ) (capacity : ℕ) where
   is_given : IsTooLongForRegion image capacity → IsTooSmallFor current (as_given image) 0 capacity
@@ -103,13 +95,3 @@ module _ (image : List ℕ) (capacity : ℕ) where
   why_examined RegionTooSmall why room = absurd (has_room room why)
   why_examined (OutOfMemory refusal) why room = inl refl
   why_examined ReadFault why room = absurd (given_read image why)
-
--- ---- the place
-
--- the place of a verdict shows its class
-pub cause_placed : (image : List ℕ) (cause : OpenError) (old : ℕ) → IsShown current image cause
-    → IsPlaced image (code_of_cause cause) old (place_of_cause cause old)
-cause_placed image (Image v) old shown = inr (v.class, refl, shown)
-cause_placed image RegionTooSmall old shown = inl (omega arith, refl)
-cause_placed image (OutOfMemory refusal) old shown = inl (omega arith, refl)
-cause_placed image ReadFault old shown = inl (omega arith, refl)

@@ -1,21 +1,20 @@
 -- The map of a key, and the next pair of it: what the directory says by the kind of the object.
 use Rattle.std.proofs.Common.{◌≡◌, ◌∙◌, refl, sym, ap, subst, ℕ, ℤ, List, Option, None, Some, Result, Ok, Err}
-use Rattle.std.proofs.{Common.[], Common.Bool, Common.false, Common.option_map, Common.true, lemmas.Bool.eqb-true}
+use Rattle.std.proofs.{Common.[], Common.Bool, lemmas.Bool.eq-eqb}
 use Rattle.std.specs.Prelude.{if◌then◌else◌}
 use Rattle.seg_types.specs.declared.kinds.Kind.TheVariants.{Map, Scalar, String, Strings, Vector}
 use Rattle.seg_types.specs.declared.refusals.Refusal.TheVariants.{NotFound, WrongKind}
-use Rattle.seg_types.specs.{declared.kinds.ScalarKind.ScalarKind, Kinds.code_of, Kinds.kind_of_code, Kinds.same_kind}
+use Rattle.seg_types.specs.{declared.kinds.ScalarKind.ScalarKind, Kinds.code_of, Kinds.same_kind}
 use Rattle.seg_types.specs.{Commands.Literal, Commands.value_of_literal, declared.refusals.Refusal.Refusal, Names.Key}
 use Rattle.seg_types.specs.declared.kinds.Kind.{Kind}
 use Rattle.seg_map.specs.Numbers.{NumberPair}
-use Rattle.segment_manager.specs.Directory.{Directory, Object, Pairs, Value, kind_of, object_at}
+use Rattle.segment_manager.specs.Directory.{Directory, Object, kind_of, object_at}
 use Rattle.segment_manager.specs.containers.Walks.{KindedPair, pairs_at, pairs_at_kinds, pairs_of}
-use Rattle.segment_manager.specs.containers.Maps.{pair_above, answer_of_map, told_of}
+use Rattle.segment_manager.specs.containers.Maps.{answer_of_map, pair_above}
 use Rattle.segment_manager.specs.State.{AnswersWith, DenotesCurrent, SegmentState}
 use Rattle.segment_manager.specs.{declared.objects.object_ref.Object.Object as Located, objects.Instances.IsMissing}
 use Rattle.segment_manager.specs.{objects.BoundObjects.key_of, objects.Located.IsLocated}
-use Rattle.seg_types.proofs.Laws.{code-read}
-use Rattle.segment_manager.proofs.Laws.{kind-by_key, same-object, told-by_key}
+use Rattle.segment_manager.proofs.Laws.{kind-by_key, map-told, same-object}
 use Rattle.segment_c.specs.Reads.{TellsPair, above_in, by_kinds, item_in, map_kinds, map_kinds_at, next_at, next_in}
 use Rattle.segment_c.specs.declared.values.CScalar.{CScalar}
 
@@ -34,6 +33,9 @@ no-kinds (Scalar k) n = refl
 no-kinds (Vector k) n = refl
 no-kinds String n = refl
 no-kinds Strings n = refl
+
+abbrev Pair : Type 0
+Pair = Result (Option KindedPair) Refusal
 
 abbrev pairs_in : Option Object → List NumberPair
 pairs_in r = elim r as (λ _. List NumberPair) [ None ↦ [] | Some o ↦ pairs_of o.value ]
@@ -88,50 +90,31 @@ module _ (s : SegmentState) (key : Key) where
 
 -- ---- the pair above a number, of a map of two kinds
 
-abbrev Numbers : Type 0
-Numbers = Result (Option (ℤ × ℤ)) Refusal
-
-abbrev above_of : ScalarKind → ScalarKind → ℤ → Value → Numbers
-above_of k v z w = if same_kind (Map k v) (kind_of w) then told_of (pair_above z) w else Err WrongKind
-
-abbrev above_at : ScalarKind → ScalarKind → ℤ → Option Object → Numbers
-above_at k v z r = elim r as (λ _. Numbers) [ None ↦ Err NotFound | Some o ↦ above_of k v z o.value ]
-
-one-kind : (a b : Kind) → same_kind a b ≡ true → a ≡ b
-one-kind a b e = let same : Some a ≡ Some b =
-    sym (code-read a) ∙ ap kind_of_code (eqb-true (code_of a) (code_of b) e) ∙ code-read b in cc
-
-abbrev Pair : Type 0
-Pair = Result (Option KindedPair) Refusal
-
-module _ (k v : ScalarKind) (l : Literal) (z : ℤ) (e : value_of_literal k l ≡ Ok z) (p : Option (ℤ × ℤ)) where
-  in-map : (w : Value) → Map k v ≡ kind_of w → (let r : Numbers = Ok p in r) ≡ told_of (pair_above z) w
-      → (let r : Pair = Ok (item_in k v p) in r) ≡ by_kinds (next_in (pairs_of w) l) (map_kinds (kind_of w))
-  in-map (Pairs j i ps) f g = let same : j ≡ k = cc in let it : i ≡ v = cc in let there : p ≡ pair_above z ps = cc in
-      subst (λ (j : ScalarKind). Ok (item_in k v p) ≡ above_in ps j i (value_of_literal j l)) (sym same)
-      (subst (λ (i : ScalarKind). Ok (item_in k v p) ≡ above_in ps k i (value_of_literal k l)) (sym it)
-      (ap (λ (q : Option (ℤ × ℤ)). let r : Pair = Ok (item_in k v q) in r) there
-      ∙ ap (above_in ps k v) (sym e)))
-  in-map w f g = absurd (cc)
-
-  of-value : (w : Value) (b : Bool) → same_kind (Map k v) (kind_of w) ≡ b
-      → (let r : Numbers = Ok p in r) ≡ (if b then told_of (pair_above z) w else Err WrongKind)
-      → (let r : Pair = Ok (item_in k v p) in r) ≡ by_kinds (next_in (pairs_of w) l) (map_kinds (kind_of w))
-  of-value w true s f = in-map w (one-kind (Map k v) (kind_of w) s) f
-  of-value w false s f = absurd (cc)
-
-  at-object : (r : Option Object) → (let r : Numbers = Ok p in r) ≡ above_at k v z r
-      → (let r : Pair = Ok (item_in k v p) in r) ≡ by_kinds (next_in (pairs_in r) l) (kinds_told (kind_in r))
-  at-object None f = absurd (cc)
-  at-object (Some o) f = of-value o.value (same_kind (Map k v) (kind_of o.value)) refl f
+-- the pairs of kinds are all pairs of a map of these kinds
+own-pairs : (k v : ScalarKind) (r : Option Object) → Ok (Map k v) ≡ kind_in r → (elim r as (λ _. List NumberPair) [
+  | None ↦ []
+  | Some q ↦ if same_kind (Map k v) (kind_of q.value) then pairs_of q.value else []
+]) ≡ pairs_in r
+own-pairs k v None e = refl
+own-pairs k v (Some q) e =
+    let same : Map k v ≡ kind_of q.value = cc in
+    ap (λ (b : Bool). if b then pairs_of q.value else [])
+    (eq-eqb (code_of (Map k v)) (code_of (kind_of q.value)) (ap code_of same))
 
 module _ (s : SegmentState) (key : Key) (at value : CScalar) where
   -- the pair that a located map of two kinds answers is told
-  pub next-of_kinds : {o : Located} → IsLocated s key o → (k v : ScalarKind) (l : Literal) (z : ℤ)
+  pub next-of_kinds : {o : Located} → IsLocated s key o → (k v : ScalarKind) → o.kind ≡ Map k v → (l : Literal) (z : ℤ)
       → value_of_literal k l ≡ Ok z → (p : Option (ℤ × ℤ))
       → AnswersWith s (λ d. answer_of_map d (key_of o) k v (pair_above z)) (Ok p) → (code : ℕ)
       → TellsPair at value code (Ok (item_in k v p)) → (d : Directory) → DenotesCurrent s.cut.bytes d
       → TellsPair at value code (next_at d key l)
-  next-of_kinds {o} there k v l z e p a code told d st =
-      subst (TellsPair at value code) (at-object k v l z e p (object_at d key)
-      ((told-by_key s key o there (λ d. above_at k v z) (Ok p) a).answers d st)) told
+  next-of_kinds {o} there k v kind l z e p a code told d st =
+      let tells = TellsPair at value code in
+      let its = kinds-map s key o there k v kind in
+      let pairs = same-pairs s key o there k v d st
+      ∙ own-pairs k v (object_at d key) (subst (λ (q : Kind). Ok q ≡ kind_in (object_at d key)) kind
+      ((kind-by_key s key o there).answers d st)) in
+      told-map s key tells (λ d. next_in (pairs_at d key) l) k v its d st
+      (subst tells (ap (λ (q : Option (ℤ × ℤ)). let r : Pair = Ok (item_in k v q) in r)
+      (map-told d (key_of o) k v (pair_above z) (Ok p) (a.answers d st) ∙ ap (pair_above z) pairs)
+      ∙ ap (above_in (pairs_at d key) k v) (sym e)) told)

@@ -3,7 +3,7 @@ use Rattle.std.proofs.{Common.refl, Common.rules, Common.subst, Common.sym, Comm
 use Rattle.seg_types.specs.{Commands.Command, Commands.Integer, Commands.Push, Names.ByHandle}
 use Rattle.segment_manager.specs.{Answers.Done, State.SegmentState, State.TakesStep}
 use Rattle.segment_c.specs.{Codes.answer_for, Passed.or_else}
-use Rattle.segment_c.proofs.segment_slot.GoingOn.{changes, number-is, number-right}
+use Rattle.segment_c.proofs.slot.GoingOn.{changes, number-is, number-right}
 
 pub returns : goal.returns
 returns c =

@@ -3,7 +3,7 @@ use Rattle.std.proofs.{Common.ap, Common.Some, Common.subst, Common.sym, Common.
 use Rattle.seg_types.specs.Commands.{Command, Integer, Push}
 use Rattle.segment_manager.specs.{Answers.Done, State.TakesStep}
 use Rattle.segment_c.specs.{Codes.answer_for, Passed.or_else}
-use Rattle.segment_c.proofs.segment_slot.GoingOn.{changes, number-is, number-right}
+use Rattle.segment_c.proofs.slot.GoingOn.{changes, number-is, number-right}
 
 pub returns : goal.returns
 returns c =
@@ -15,7 +15,7 @@ returns c =
           (λ i. or_else (key.0 i) (number-right c.of-value.result c.of-value.ensures i))
           (c.put_taken_back-2.ensures.effect ∙ ap Some (c.push_here.ensures.refused c.if-push_here.false
           ∙ c.deref_mut.ensures.value) ∙ sym c.in-Ok.ensures.transfer.0)
-          (c.put_taken_back-2.ensures.marks ∙ c.take.ensures.marks)
+          (c.put_taken_back-2.ensures.marks_are ∙ c.take.ensures.marks)
           (λ s t r. subst (λ (it : Command). TakesStep s t it (answer_for c.push_any.result Done))
           (λ i. Push (key.1 i) (number i)) r) c.push_any.ensures.call;
     }

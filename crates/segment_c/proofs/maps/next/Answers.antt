@@ -1,11 +1,10 @@
 use Rattle.segment_c.proofs.maps.next.Goals as goal
 use Rattle.std.proofs.Common.{Ok, Option, ap, subst, sym, ◌∙◌}
-use Rattle.seg_types.specs.{declared.kinds.Kind.Kind, Keys.key_seen, Written.literal_seen, Values.kind_of_scalar}
+use Rattle.seg_types.specs.{Keys.key_seen, Written.literal_seen, Values.kind_of_scalar}
 use Rattle.seg_types.specs.Values.{value_of_scalar}
 use Rattle.seg_types.specs.declared.kinds.Kind.TheVariants.{Map}
-use Rattle.segment_manager.specs.{Calls.kind_at, State.AnswersWith, containers.Maps.pair_above}
-use Rattle.segment_manager.specs.containers.Walks.{KindedPair, item_seen, pairs_at}
-use Rattle.segment_manager.proofs.Laws.{kind-by_key}
+use Rattle.segment_manager.specs.containers.Maps.{pair_above}
+use Rattle.segment_manager.specs.containers.Walks.{KindedPair, pairs_at}
 use Rattle.segment_c.specs.Reads.{TellsPair, above_in, item_in, next_in}
 use Rattle.segment_c.proofs.views.Neighbours.{all-pairs, told-map, told-refused}
 

@@ -28,7 +28,7 @@ above {t = t} {q = q} {its_after = its_after} {after = after} p e is same a =
 pub returns-clause-read : goal.returns-clause-read
 returns-clause-read c =
     next-of_kinds c.args.segment.now (ByHandle c.args._handle) c.numbers_out.new.at c.numbers_out.new.value
-    c.requires.location I64 I64 (Integer c.args.after) c.args.after (literal-read I64 c.args.after
+    c.requires.location I64 I64 c.requires.kind (Integer c.args.after) c.args.after (literal-read I64 c.args.after
     (subst (λ (z : ℤ). is_value I64 z ≡ true) (to_z-of_z w64 c.args.after c.ranges.after) c.holds_value.ensures))
     c.next_after-pair.result (above c.next_after-pair.result (to_z-of_z w64 c.args.after c.ranges.after)
     c.at.ensures.object c.at.ensures.segment c.next_after-pair.ensures) c.numbers_out.result c.numbers_out.ensures.read

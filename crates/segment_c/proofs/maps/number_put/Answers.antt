@@ -3,7 +3,7 @@ use Rattle.std.proofs.{Common.ap, Common.subst, Common.sym, Common.w64, Common.�
 use Rattle.seg_types.specs.Commands.{Command, Integer, Put}
 use Rattle.segment_manager.specs.{Answers.Boolean, State.TakesStep}
 use Rattle.segment_c.specs.{Codes.answer_for, Passed.or_else}
-use Rattle.segment_c.proofs.segment_slot.GoingOn.{changes, number-is, number-right}
+use Rattle.segment_c.proofs.slot.GoingOn.{changes, number-is, number-right}
 
 pub returns-clause-call : goal.returns-clause-call
 returns-clause-call c =
@@ -13,7 +13,7 @@ returns-clause-call c =
     changes {old = c.args.h.now} {lent = c.put_taken_back.new.handle} {new = c.put_any.new.h}
     (λ i. or_else (key.0 i) (or_else (number-right c.of-at.result at i) (number-right c.of-value.result value i)))
     (c.put_taken_back.ensures.effect ∙ sym c.in-Ok.ensures.transfer.0)
-    (c.put_taken_back.ensures.marks ∙ c.take.ensures.marks)
+    (c.put_taken_back.ensures.marks_are ∙ c.take.ensures.marks)
     (λ s t r. subst (λ (it : Command). TakesStep s t it (answer_for c.put_any.result (Boolean c.put_any.new.is_new)))
     (λ i. Put (key.1 i) ((number-is c.of-at.result at ∙ ap Integer (to_z-of_z w64 c.args.at c.ranges.at)) i)
     ((number-is c.of-value.result value ∙ ap Integer (to_z-of_z w64 c.args.value c.ranges.value)) i)) r)

@@ -1,20 +1,22 @@
 -- Why a copy is not put back, or that it is.
 use Rattle.segment_c.proofs.transactions.code_to_put_back.Goals as goal
-use Rattle.std.proofs.{Common.◌∙◌, Common.ap, Common.length, Common.nat_le, Common.sym, lemmas.Bool.leb-true}
+use Rattle.std.proofs.{Common.length, Common.rules, lemmas.Bool.le-leb}
 use Rattle.grow_shrink.specs.Resized.{room_of}
-use Rattle.segment_c.proofs.transactions.Rooms.{no-room, put-back}
+use Rattle.segment_c.proofs.transactions.Rooms.{fits, misses, no-room, put-back}
 
-pub returns-then-has_room-clause-code : goal.returns-then-has_room-clause-code
-returns-then-has_room-clause-code c = put-back (sym c.is_read_only.ensures ∙ c.if-is_read_only.false)
-    (ap (λ n. nat_le n (room_of c.args.segment.now.cut)) (sym c.size_of.ensures.size)
-    ∙ sym c.has_room.ensures ∙ c.if-has_room.true)
+pub returns-then-beyond-left-clause-code : goal.returns-then-beyond-left-clause-code
+returns-then-beyond-left-clause-code c =
+    put-back (search rules)
+    (le-leb (length c.args.copy.now.cut.bytes) (room_of c.args.segment.now.cut) (fits c.args.segment.now.cut
+    c.size_of-size.ensures.size c.size_of-len.ensures.size c.saturating_sub-beyond.ensures c.region_left-left.ensures
+    c.if-beyond-left.true))
 
-pub returns-then-has_room-clause-room : goal.returns-then-has_room-clause-room
-returns-then-has_room-clause-room c = λ _. leb-true (length c.args.copy.now.cut.bytes) (room_of c.args.segment.now.cut)
-    (ap (λ n. nat_le n (room_of c.args.segment.now.cut)) (sym c.size_of.ensures.size)
-    ∙ sym c.has_room.ensures ∙ c.if-has_room.true)
+pub returns-then-beyond-left-clause-room : goal.returns-then-beyond-left-clause-room
+returns-then-beyond-left-clause-room c = λ _.
+    fits c.args.segment.now.cut c.size_of-size.ensures.size c.size_of-len.ensures.size c.saturating_sub-beyond.ensures
+    c.region_left-left.ensures c.if-beyond-left.true
 
 pub returns-clause-code : goal.returns-clause-code
-returns-clause-code c = no-room (sym c.is_read_only.ensures ∙ c.if-is_read_only.false)
-    (ap (λ n. nat_le n (room_of c.args.segment.now.cut)) (sym c.size_of.ensures.size)
-    ∙ sym c.has_room.ensures ∙ c.if-has_room.false)
+returns-clause-code c = no-room (search rules)
+    (misses c.args.segment.now.cut c.size_of-size.ensures.size c.size_of-len.ensures.size
+    c.saturating_sub-beyond.ensures c.region_left-left.ensures c.if-beyond-left.false)

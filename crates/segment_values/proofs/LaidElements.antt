@@ -18,7 +18,7 @@ use Rattle.segment_manager.specs.{declared.objects.object_ref.Object.Object as L
 use Rattle.segment_manager.specs.{Calls.elements_of, Calls.scalar_reply, Parts.part_of, Parts.parts_until}
 use Rattle.segment_manager.specs.State.{AnswersWith, SegmentState, DenotesCurrent}
 use Rattle.segment_manager.proofs.{CommandLaws.answered-reads, ElementLaws.with-found, Laws.IsSaidAt, Laws.said-at}
-use Rattle.segment_manager.proofs.Laws.{got, text-read}
+use Rattle.segment_manager.proofs.Laws.{text-read}
 use Rattle.segment_values.specs.Asked.{length_in}
 use Rattle.segment_values.specs.Contents.{ValueContent, bytes_in, content_of, count_of_content}
 use Rattle.segment_values.specs.Layouts.{Spelling, content_part, count_at, laid_at, laid_object, laid_out, object_count}
@@ -115,6 +115,11 @@ measured (Texts ps t) n m = sym (length-map ps bytes_in)
 
 -- ---- the object of a handle
 
+-- the text that was read, if there is one
+abbrev text_of : Result (List ℕ) Refusal → Option (List ℕ)
+text_of (Ok text) = Some text
+text_of (Err why) = None
+
 module _ (s : SegmentState) (o : Located) (l : IsLocated s (ByHandle o.handle) o) where
   -- the directory has the object, of this kind
   pub here : (d : Directory) → DenotesCurrent s.cut.bytes d → IsSaidAt d (ByHandle o.handle) o
@@ -164,14 +169,22 @@ module _ (s : SegmentState) (o : Located) (l : IsLocated s (ByHandle o.handle) o
       (with-found d (ByHandle o.handle) f.object (λ o. get d o.value i) f.is))
       ∙ sym (ap (part_of (object_part sp i)) f.is)
 
+  text-there : (sp : Spelling) (i : ℕ) → o.kind ≡ StringsKind → (d : Directory) → DenotesCurrent s.cut.bytes d
+      → (p : Option (List ℕ)) → p ≡ slice_get (texts_at d (ByHandle o.handle)) i
+      → part_of (sp.text i) p ≡ part_at sp d (ByHandle o.handle) i
+  text-there sp i e d st p read =
+      let f = here d st in
+      ap (part_of (sp.text i)) read
+      ∙ rw (f.is, texts_at, list_at) (text-said sp i f.object.value (sym (kind-here d st) ∙ e))
+
   -- the text of a string of a vector, by how it is read
   pub text-part : (sp : Spelling) (i : ℕ) → o.kind ≡ StringsKind → (d : Directory) → DenotesCurrent s.cut.bytes d
       → (r : Result (List ℕ) Refusal) → answer_of TextElement r ≡ (step_of_kind s.mode d (ByHandle o.handle) StringsKind
-      (asked.Get (ByHandle o.handle) i)).0 → part_of (sp.text i) (got r) ≡ part_at sp d (ByHandle o.handle) i
-  text-part sp i e d st r said =
-      let f = here d st in
-      ap (part_of (sp.text i)) (text-read s.mode d (ByHandle o.handle) i r said)
-      ∙ rw (f.is, texts_at, list_at) (text-said sp i f.object.value (sym (kind-here d st) ∙ e))
+      (asked.Get (ByHandle o.handle) i)).0 → part_of (sp.text i) (text_of r) ≡ part_at sp d (ByHandle o.handle) i
+  text-part sp i e d st (Ok text) said =
+      text-there sp i e d st (Some text) (text-read s.mode d (ByHandle o.handle) i (Ok text) said)
+  text-part sp i e d st (Err why) said =
+      text-there sp i e d st None (text-read s.mode d (ByHandle o.handle) i (Err why) said)
 
   -- the text of a string
   pub string-part : (sp : Spelling) (i : ℕ) → o.kind ≡ String → (d : Directory) → DenotesCurrent s.cut.bytes d

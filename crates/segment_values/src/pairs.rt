@@ -1,7 +1,7 @@
 //! Puts, looks up and erases pairs of maps, with keys and values as callers write them, and reads pairs by rising map
 //! keys.
 ghost use Rattle.std.specs.Prelude.{◌≡◌, IfSome, Ok, OnErr, false, option_map};
-ghost use Rattle.seg_types.specs.Commands.{Lookup, Put, Remove};
+ghost use Rattle.seg_types.specs.Commands.{Lookup, Put, Remove, literal_of};
 ghost use Rattle.seg_types.specs.{declared.kinds.Kind.TheVariants.Map as MapOf, Keys.key_seen, Kinds.lowest};
 ghost use Rattle.seg_types.specs.{Names.ByHandle, Values.kind_of_scalar, Values.value_of_scalar, Written.literal_seen};
 ghost use Rattle.seg_map.specs.Places.{item_of};
@@ -17,22 +17,6 @@ use seg_types::{
     Key, Kind, Refusal, Scalar, ScalarKind, ScalarValue, WrittenValue, by_kind, by_value, pair_of,
 };
 use segment_manager::{Map, MapMut, Object, Segment, locate};
-
-/// Repeats a piece of code for a map key of each type and each kind of values: for a `bool` and `bool`, `Bool`, and so
-/// on.
-///
-/// `by_pair!(key, kind, work)` calls the macro `work!` with the map key, a type and a name.
-macro_rules! by_pair {
-    ($at:ident, $values:expr, $work:ident) => {
-        seg_types::by_value!($at, $at => match $values {
-            seg_types::ScalarKind::Bool => $work!($at, bool, Bool),
-            seg_types::ScalarKind::U8 => $work!($at, u8, U8),
-            seg_types::ScalarKind::I32 => $work!($at, i32, I32),
-            seg_types::ScalarKind::I64 => $work!($at, i64, I64),
-            seg_types::ScalarKind::U64 => $work!($at, u64, U64),
-        })
-    };
-}
 
 /// Sets the value of a map key in a map, and returns true if the map key is new.
 ///
@@ -84,7 +68,27 @@ pub fn insert_pair(
     ensures overwrite { ChangesValue segment.old segment.new (ByHandle object.handle) (kind_of_scalar at)
         (value_of_scalar at) (kind_of_scalar value) }
 {
-    by_value!(at, at => by_value!(value, value => MapMut::at(segment, object).insert(at, value)))
+    by_value!(at, at => insert_typed(segment, object, at, value))
+}
+
+/// Sets the value of the map key `at` in a located map of its type, as [`insert_pair`] does.
+#[inline(always)]
+fn insert_typed<K: Scalar>(
+    segment: &mut Segment,
+    object: Object,
+    at: K,
+    value: ScalarValue,
+) -> Result<bool, Refusal>
+    requires object { IsBound (MapOf K.kind (kind_of_scalar value)) object segment.old }
+    requires writing { is_read_only segment.old.mode ≡ false }
+    ensures step { TakesStepOfKind segment.old segment.new (ByHandle object.handle)
+        (MapOf K.kind (kind_of_scalar value))
+        (Put (ByHandle object.handle) (literal_of K.kind (K.whole at)) (literal_seen value)) (truth_answer result) }
+    ensures refused { OnErr result (segment.new ≡ segment.old) }
+    ensures overwrite { ChangesValue segment.old segment.new (ByHandle object.handle) K.kind (K.whole at)
+        (kind_of_scalar value) }
+{
+    by_value!(value, value => MapMut::at(segment, object).insert(at, value))
 }
 
 /// Returns the value of a map key in a map, or `None` if the map lacks the map key.
@@ -125,14 +129,29 @@ fn look_up_scalar(
     ensures { AnswersQueryOfKind segment.now (ByHandle object.handle) (MapOf (kind_of_scalar at) values)
         (Lookup (ByHandle object.handle) (literal_seen at)) (any_value_answer (Ok result)) }
 {
+    by_value!(at, at => get_typed(segment, object, at, values))
+}
+
+/// Returns the value of the map key `at` in a map of its type and the kind `values`, or `None` if the map lacks it.
+#[inline(always)]
+fn get_typed<K: Scalar>(
+    segment: &Segment,
+    object: Object,
+    at: K,
+    values: ScalarKind,
+) -> Option<ScalarValue>
+    requires { IsBound (MapOf K.kind values) object segment.now }
+    ensures { AnswersQueryOfKind segment.now (ByHandle object.handle) (MapOf K.kind values)
+        (Lookup (ByHandle object.handle) (literal_of K.kind (K.whole at))) (any_value_answer (Ok result)) }
+{
     macro_rules! found {
-        ($at:ident, $type:ty, $kind:ident) => {
-            Map::<_, $type>::at(segment, object)
-                .get($at)
+        ($type:ty, $kind:ident) => {
+            Map::<K, $type>::at(segment, object)
+                .get(at)
                 .map(ScalarValue::$kind)
         };
     }
-    by_pair!(at, values, found)
+    by_kind!(values, found)
 }
 
 /// Erases a map key from a map, and returns true if the map had it. If not, nothing changes.
@@ -172,12 +191,24 @@ fn erase_scalar(segment: &mut Segment, object: Object, at: ScalarValue, values: 
     ensures absent { UnchangedWhere segment.old segment.new
         (LacksPair (ByHandle object.handle) (value_of_scalar at)) }
 {
+    by_value!(at, at => erase_typed(segment, object, at, values))
+}
+
+/// Erases the map key `at` from a map of its type and the kind `values`, and returns true if the map had it.
+#[inline(always)]
+fn erase_typed<K: Scalar>(segment: &mut Segment, object: Object, at: K, values: ScalarKind) -> bool
+    requires object { IsBound (MapOf K.kind values) object segment.old }
+    requires writing { is_read_only segment.old.mode ≡ false }
+    ensures step { TakesStepOfKind segment.old segment.new (ByHandle object.handle) (MapOf K.kind values)
+        (Remove (ByHandle object.handle) (literal_of K.kind (K.whole at))) (truth_answer (Ok result)) }
+    ensures absent { UnchangedWhere segment.old segment.new (LacksPair (ByHandle object.handle) (K.whole at)) }
+{
     macro_rules! erased {
-        ($at:ident, $type:ty, $kind:ident) => {
-            MapMut::<_, $type>::at(segment, object).erase($at)
+        ($type:ty, $kind:ident) => {
+            MapMut::<K, $type>::at(segment, object).erase(at)
         };
     }
-    by_pair!(at, values, erased)
+    by_kind!(values, erased)
 }
 
 /// Returns the first pair of a located map, or `None` if the map is empty.
@@ -243,14 +274,34 @@ pub fn pair_past(
     ensures kind { IfSome result (λ (at, value). kind_of_scalar at ≡ kind_of_scalar bound) }
 {
     macro_rules! read {
-        ($bound:ident, $type:ty, $kind:ident) => {
-            match typed_pair::<_, $type>(segment, object, $bound, above) {
+        ($type:ty, $kind:ident) => {
+            match pair_of_values::<$type>(segment, object, bound, above) {
                 None => None,
-                Some((at, value)) => Some((ScalarValue::from(at), ScalarValue::$kind(value))),
+                Some((at, value)) => Some((at, ScalarValue::$kind(value))),
             }
         };
     }
-    by_pair!(bound, values, read)
+    by_kind!(values, read)
+}
+
+/// Returns the map's first pair whose map key is above a bound, or not below it, for a map with values of a type.
+#[inline(always)]
+fn pair_of_values<V: Scalar>(
+    segment: &Segment,
+    object: Object,
+    bound: ScalarValue,
+    above: bool,
+) -> Option<(ScalarValue, V)>
+    requires { IsBound (MapOf (kind_of_scalar bound) V.kind) object segment.now }
+    ensures pair { AnswersWith segment.now (λ d. option_map (item_of_kinds (kind_of_scalar bound) V.kind)
+        (pair_past above (value_of_scalar bound) (pairs_at d (ByHandle object.handle))))
+        (option_map (item_of_kinds (kind_of_scalar bound) V.kind) (numbers_in value_of_scalar V.whole result)) }
+    ensures kind { IfSome result (λ (at, value). kind_of_scalar at ≡ kind_of_scalar bound) }
+{
+    by_value!(bound, bound => match typed_pair::<_, V>(segment, object, bound, above) {
+        None => None,
+        Some((at, value)) => Some((ScalarValue::from(at), value)),
+    })
 }
 
 /// Returns the map's first pair whose map key is above a bound, or not below it, for a map of two types.

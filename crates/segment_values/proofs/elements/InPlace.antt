@@ -203,9 +203,10 @@ module _ (s : SegmentState) (o : Located) (l : IsLocated s (ByHandle o.handle) o
         -- the bytes of this many elements from an index on lie in the image, so a call that finds them adds up no more
         pub range-small : IsSegment s.cut.bytes → (size : ℕ) → size ≡ size_of k
             → (size * first ≤ 1073741824) × (run.offset + size * first ≤ 1073741824) × (size * n ≤ 1073741824)
+            × (run.offset + size * first + size * n ≤ length s.cut.bytes)
         range-small g size same =
             let within = inside g.0 g.1 in let short = segment-short s.cut.bytes g in
-            rw same (omega (arith, within, short), omega (arith, within, short), omega (arith, within, short))
+            rw same (omega (arith, within, short), omega (arith, within, short), omega (arith, within, short), within)
 
         -- they encode these elements
         spelled : {from : List ℕ} → from ≡ part s.cut.bytes (run.offset + size_of k * first) (size_of k * n)

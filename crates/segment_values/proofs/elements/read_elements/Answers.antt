@@ -50,6 +50,24 @@ overflow_mul-len g c =
     (subst IsSegment c.as_bytes-image.ensures.bytes c.as_bytes-image.ensures.denotation) c.SIZE-2.result
     (c.SIZE-2.ensures ∙ g.met.T.Scalar.size) in let few = small.2 in omega (arith, few)
 
+pub overflow_add-from-2 : goal.overflow_add-from-2
+overflow_add-from-2 g c =
+    let small = range-small c.args.segment.now c.args.object (of-handle c.requires) g.T.Scalar.kind c.args.first
+    (length c.args.series.now) (sym c.if-not-is_slice.ensures) c.in_ok-source.source c.in_ok-source.ensures.run
+    c.in_ok-source.ensures.bytes (omega (arith, c.if-first-source.false, c.if-series-source.false))
+    (subst IsSegment c.as_bytes-image.ensures.bytes c.as_bytes-image.ensures.denotation) in
+    let few = (small c.SIZE.result (c.SIZE.ensures ∙ g.met.T.Scalar.size)).1 in
+    let more = (small c.SIZE-2.result (c.SIZE-2.ensures ∙ g.met.T.Scalar.size)).2 in omega (arith, few, more)
+
+pub slice_bounds-read_values-end : goal.slice_bounds-read_values-end
+slice_bounds-read_values-end g c =
+    let small = range-small c.args.segment.now c.args.object (of-handle c.requires) g.T.Scalar.kind c.args.first
+    (length c.args.series.now) (sym c.if-not-is_slice.ensures) c.in_ok-source.source c.in_ok-source.ensures.run
+    c.in_ok-source.ensures.bytes (omega (arith, c.if-first-source.false, c.if-series-source.false))
+    (subst IsSegment c.as_bytes-image.ensures.bytes c.as_bytes-image.ensures.denotation) g.T.Plain.SIZE
+    g.met.T.Scalar.size in
+    rw (c.SIZE.ensures, c.SIZE-2.ensures, c.as_bytes-image.ensures.bytes) small.3
+
 pub returns-clause-read : goal.returns-clause-read
 returns-clause-read g c =
     let n = length c.args.series.now in

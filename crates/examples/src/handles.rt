@@ -18,6 +18,7 @@ pub fn follow_a_handle(rt: &HostRuntime, disk: &mut impl Disk) -> Result<()> {
     let file = SegmentFile::open(rt.alloc(), disk, "chain.seg")?;
     let handle: u64 = file.segment.get(&first, 0)?;
     let number: i32 = file.segment.get(&Key::Handle(handle), 0)?;
+    file.close(disk);
     println!(rt; "handles: #{handle} has {number}")?;
     Ok(())
 }

@@ -1,16 +1,15 @@
 //! What is in a segment. Boost: `named_begin`, `unique_begin`, `anonymous_instance`, `unique_instance`.
 use anyhow::Result;
-use zaluxhoni::{
-    AnonymousInstance, Disk, Key, Name, Refusal, Segment, SegmentFile, UniqueInstance, named,
-};
+use zaluxhoni::{AnonymousInstance, Disk, Key, Segment, SegmentFile, UniqueInstance, named};
 
 /// Constructs an `i64` with a name, the unique `i32`, and three bytes without a key, and returns the handle of the
 /// bytes.
-fn fill(segment: &mut Segment, name: &Name) -> Result<u64, Refusal> {
-    segment.construct(name, 1, 640i64)?;
-    segment.find_or_construct_array(name, 3, 0i64)?;
+fn fill(segment: &mut Segment) -> Result<u64> {
+    let name = named("width")?;
+    segment.construct(&name, 1, 640i64)?;
+    segment.find_or_construct_array(&name, 3, 0i64)?;
     segment.construct(&UniqueInstance, 1, 7i32)?;
-    segment.construct_array(&AnonymousInstance, 3, 9u8)
+    Ok(segment.construct_array(&AnonymousInstance, 3, 9u8)?)
 }
 
 /// Prints the first object of each index.
@@ -35,26 +34,19 @@ fn tell_the_names(rt: &HostRuntime, segment: &Segment) -> Result<()> {
 
 /// Prints all objects, also those without a key.
 fn tell_of_all(rt: &HostRuntime, segment: &Segment) -> Result<()> {
-    for said in segment.objects() {
-        println!(rt;
-            "a list: #{} has {} elements of kind {}",
-            said.handle, said.count, said.kind
-        )?;
+    for object in segment.objects() {
+        let (handle, count, kind) = (object.handle, object.count, object.kind);
+        println!(rt; "a list: #{handle} has {count} elements of kind {kind}")?;
     }
     Ok(())
 }
 
-/// Prints what a segment has.
-fn tell(rt: &HostRuntime, segment: &Segment) -> Result<()> {
-    tell_the_first(rt, segment)?;
-    tell_the_names(rt, segment)?;
-    tell_of_all(rt, segment)
-}
-
 /// Fills a segment, and prints its contents.
 fn list(rt: &HostRuntime, segment: &mut Segment) -> Result<()> {
-    let handle = fill(segment, &named("width")?)?;
-    tell(rt, segment)?;
+    let handle = fill(segment)?;
+    tell_the_first(rt, segment)?;
+    tell_the_names(rt, segment)?;
+    tell_of_all(rt, segment)?;
     let len = segment.instance_length(&Key::Handle(handle))?;
     println!(rt; "a list: #{handle} has {len} elements")?;
     Ok(())

@@ -1,9 +1,10 @@
-//! Thirteen short programs over the library, on files in the folder that they run in. Each prints what it found.
+//! Short programs over the library, on files in the folder that they run in. Each prints what it found.
 #![tactic(auto)]
 
 mod commits;
 mod growing;
 mod handles;
+mod inventory;
 mod listing;
 mod migrating;
 mod moving;
@@ -17,7 +18,7 @@ mod untrusted_file;
 mod views;
 
 use anyhow::Result;
-use std::fs;
+use std::{env, fs};
 use zaluxhoni::{Disk, HostDisk};
 
 /// Takes away the files that a run before this one made.
@@ -49,8 +50,9 @@ fn run_six(rt: &HostRuntime, disk: &mut impl Disk) -> Result<()> {
     untrusted_file::open_a_stranger(rt, disk)
 }
 
-/// Runs all thirteen.
+/// Runs all but the inventory.
 fn run(rt: &HostRuntime, disk: &mut impl Disk) -> Result<()> {
+    clean(rt);
     run_six(rt, disk)?;
     moving::move_a_segment(rt, disk)?;
     migrating::migrate_an_older_file(rt, disk)?;
@@ -61,9 +63,14 @@ fn run(rt: &HostRuntime, disk: &mut impl Disk) -> Result<()> {
     commits::commit_sales(rt, disk)
 }
 
-/// Runs the programs over the files of the system.
+/// Runs the programs over the files of the system: the inventory if that is the first argument, or else the others.
 fn main(rt: HostRuntime) -> Result<()> {
     let mut disk = HostDisk::new(&rt);
-    clean(&rt);
-    run(&rt, &mut disk)
+    let arguments: Vec<String> = env::args(&rt)?.collect(rt.alloc())?;
+    match arguments.as_slice() {
+        [_, program, rest @ ..] if program.as_str() == "inventory" => {
+            inventory::keep_inventory(&rt, &mut disk, rest)
+        }
+        _ => run(&rt, &mut disk),
+    }
 }

@@ -14,14 +14,22 @@ fn fill(shop: &mut Segment) -> Result<()> {
     Ok(StringsMut::of(shop, &basket)?.push(b"apples")?)
 }
 
-/// Opens a shop or makes it, fills it, and saves it. Then reads how many things are in its basket.
-pub fn visit_a_shop(rt: &HostRuntime, disk: &mut impl Disk) -> Result<()> {
+/// Opens a shop or makes it, fills it, and saves it.
+fn keep_a_shop(rt: &HostRuntime, disk: &mut impl Disk) -> Result<()> {
     let mut file = SegmentFile::open_or_create(rt.alloc(), disk, "shop.seg", 4096)?;
     fill(&mut file.segment)?;
-    file.save(disk)?;
-    file.close(disk);
-    let kept = read(rt.alloc(), disk, "shop.seg", Mode::ReadOnly)?;
-    let count = Strings::of(&kept, &named("basket")?)?.len();
+    Ok(file.save(disk)?)
+}
+
+/// Tells how many things are in the basket of a shop.
+fn tell(rt: &HostRuntime, shop: &Segment) -> Result<()> {
+    let count = Strings::of(shop, &named("basket")?)?.len();
     println!(rt; "open or create: the basket has {count}")?;
     Ok(())
+}
+
+/// Puts one more thing into the basket of a shop in a file, and reads the file.
+pub fn visit_a_shop(rt: &HostRuntime, disk: &mut impl Disk) -> Result<()> {
+    keep_a_shop(rt, disk)?;
+    tell(rt, &read(rt.alloc(), disk, "shop.seg", Mode::ReadOnly)?)
 }

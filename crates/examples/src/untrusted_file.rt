@@ -7,8 +7,7 @@ pub fn open_a_stranger(rt: &HostRuntime, disk: &mut impl Disk) -> Result<()> {
     match read(rt.alloc(), disk, "stranger.seg", Mode::ReadOnly) {
         Ok(segment) => println!(rt; "a stranger: {} bytes", segment.size())?,
         Err(FileError::Open(OpenError::Image(verdict))) => {
-            let class = verdict.class;
-            let number = class.number();
+            let (class, number) = (verdict.class, verdict.class.number());
             println!(rt; "a stranger: refused by class {number}, {class}")?;
         }
         Err(why) => println!(rt; "a stranger: {why}")?,

@@ -1,8 +1,8 @@
 //! Objects that are looked up once: their calls need no name. Boost: the pointer that `find` and `construct` return.
 use anyhow::Result;
 use zaluxhoni::{
-    ArrayMut, Disk, MapMut, MapRanges, Name, Refusal, Segment, SegmentFile, SliceReads, StringMut,
-    StringsMut, TextSequence, VectorMut, named,
+    ArrayMut, Disk, Map, MapMut, MapRanges, Name, Refusal, Segment, SegmentFile, SliceReads,
+    StringMut, StringsMut, TextSequence, VectorMut, named,
 };
 
 /// Puts numbers into a queue, and takes some out.
@@ -21,10 +21,7 @@ fn view_a_queue(rt: &HostRuntime, segment: &mut Segment) -> Result<()> {
     segment.construct_vec::<i64, _>(&name, &[])?;
     let mut queue = VectorMut::<i64>::of(segment, &name)?;
     fill(&mut queue)?;
-    let sum = queue
-        .read()
-        .iter()
-        .fold(0i64, |sum, number| sum.saturating_add(number));
+    let sum = queue.read().iter().fold(0i64, i64::saturating_add);
     let (len, last) = (queue.read().len(), queue.pop()?);
     println!(rt; "views: a queue of {len} with the sum {sum}, the last is {last}")?;
     Ok(())
@@ -51,23 +48,33 @@ fn record_years(years: &mut MapMut<'_, i32, i64>) -> Result<(), Refusal> {
     Ok(())
 }
 
-/// Shows a view of an array, and one of a map, by rising and then by falling keys.
+/// Shows a map by rising keys: its first pair, the next one after the number 3, and the sum of the years.
+fn view_rising(rt: &HostRuntime, years: &Map<'_, i32, i64>, flag: u8) -> Result<()> {
+    let ends = [years.iter().next(), years.next_after(3)];
+    let sum = years
+        .range(2..=9)
+        .fold(0i64, |sum, (_number, year)| sum.saturating_add(year));
+    println!(rt; "views: a flag {flag}, in the map {ends:?}, and {sum} in all")?;
+    Ok(())
+}
+
+/// Shows a map by falling keys: its last two pairs.
+fn view_falling(rt: &HostRuntime, years: &Map<'_, i32, i64>) -> Result<()> {
+    for (number, year) in years.range(..=9).rev().take(2) {
+        println!(rt; "views: going back, number {number} is of {year}")?;
+    }
+    Ok(())
+}
+
+/// Shows a view of an array, and one of a map.
 fn view_a_map(rt: &HostRuntime, segment: &mut Segment) -> Result<()> {
     let flag = change_an_array(segment, &named("flags")?)?;
     let name = named("years")?;
     segment.construct_map::<i32, i64, _>(&name)?;
     let mut years = MapMut::of(segment, &name)?;
     record_years(&mut years)?;
-    let years = years.read();
-    let ends = [years.iter().next(), years.next_after(3)];
-    let sum = years
-        .range(2..=9)
-        .fold(0i64, |sum, (_number, year)| sum.saturating_add(year));
-    println!(rt; "views: a flag {flag}, in the map {ends:?}, and {sum} in all")?;
-    for (number, year) in years.range(..=9).rev().take(2) {
-        println!(rt; "views: going back, number {number} is of {year}")?;
-    }
-    Ok(())
+    view_rising(rt, &years.read(), flag)?;
+    view_falling(rt, &years.read())
 }
 
 /// Makes a string, appends to it, changes it, and returns its length.
@@ -89,10 +96,10 @@ fn shorten_a_list(segment: &mut Segment, name: &Name) -> Result<usize, Refusal> 
     lines.pop()?;
     lines.erase(0)?;
     lines.set(0, b"only")?;
-    let bytes = lines
-        .read()
-        .iter()
-        .fold(0usize, |bytes, line| bytes.saturating_add(line.len()));
+    let mut bytes = 0usize;
+    for line in lines.read().iter() {
+        bytes = bytes.saturating_add(line.len());
+    }
     Ok(bytes)
 }
 

@@ -93,7 +93,8 @@ destroy-stands image old new h answer t =
 
 -- ---- a pair is put
 
-found-test : {A : Type 0} (test : A → Bool) (xs : List A) → HasIf (λ x. test x ≡ true) (find test xs)
+-- what was found passes the test
+pub found-test : {A : Type 0} (test : A → Bool) (xs : List A) → HasIf (λ x. test x ≡ true) (find test xs)
 found-test test [] = tt
 found-test test (x ∷ xs) =
     (elim (test x) as (λ (b : Bool). test x ≡ b → HasIf (λ x. test x ≡ true) (cond b (Some x) (find test xs))) [

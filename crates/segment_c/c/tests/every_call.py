@@ -2184,6 +2184,20 @@ def threads_that_shorten():
     same(seen, [3])
 
 
+def large_pages():
+    """A long segment has large pages where the system gives them on request; a short one has none."""
+    def advised():
+        with open("/proc/self/smaps") as maps:
+            return sum("hg" in it.split() for it in maps if it.startswith("VmFlags:"))
+    before = advised()
+    short = zaluxhoni.create(1 << 20)
+    same(advised(), before)
+    long = zaluxhoni.create(8 << 20)
+    same(advised() > before, os.path.isdir("/sys/kernel/mm/transparent_hugepage"))
+    short.close()
+    long.close()
+
+
 for case in (an_anonymous_object, names, index_and_object_do_not_both_fit, arrays, the_only_object_of_its_kind,
              places_reserved_in_the_indexes, best_fit, storage_is_lengthened_then_replaced, a_string_grows_and_shrinks,
              a_map,
@@ -2199,7 +2213,7 @@ for case in (an_anonymous_object, names, index_and_object_do_not_both_fit, array
              none_is_no_name, records_of_other_packages, records_as_list_are_one, tasks_with_transactions,
              numbers_beyond_all, small_rules, no_space_says_more, a_wait_for_the_writer, the_module_as_program,
              segments_grow, storage_that_cannot_double, texts_that_stay_bytes, records_of_dataclasses,
-             threads_that_shorten):
+             threads_that_shorten, large_pages):
     try:
         case()
     except Exception as error:

@@ -1,12 +1,12 @@
 -- What the first bytes of an image say of its size, and which codes answer an image that is not opened.
 use Rattle.std.proofs.Common.{◌≡◌, ◌≤◌, inl, inr, ℕ, Bool, true, false, ◌&&◌, ◌<◌, List, [], ◌∷◌, Some, refl}
-use Rattle.std.proofs.Common.{ap, length, IsTrue, arith}
+use Rattle.std.proofs.Common.{ap, length, subst, sym, IsTrue, arith}
 use Rattle.std.specs.Prelude.{nat_le, nat_lt, find, min, if◌then◌else◌}
 use Rattle.std.proofs.lemmas.Bool.{and_from, and_parts, cond-true, false≢true, le-leb, lt-ltb, or_right}
 use Rattle.raw_region.specs.Format.{current}
 use Rattle.block_tags.specs.Format.{is_legal_size}
 use Rattle.image_check.specs.declared.errors.OpenError.{OpenError}
-use Rattle.image_check.specs.{Classes.class_of, Classes.holds}
+use Rattle.image_check.specs.{Causes.IsShown, Classes.class_of, Classes.holds, Verdicts.Shows}
 use Rattle.image_check.specs.Opening.{IsOpenCause, IsTooSmallFor, IsUndecided, as_given}
 use Rattle.image_check.proofs.Facts.{refused-class}
 use Rattle.image_check.specs.declared.classes.ImageClass.TheVariants.{Truncated, BadMagic, UnsupportedVersion, BadSize}
@@ -14,8 +14,8 @@ use Rattle.image_check.specs.declared.classes.ImageClass.TheVariants.{BadReserve
 use Rattle.image_check.specs.declared.classes.ImageClass.TheVariants.{BadObject, SharedBlock, BadContainer, OrphanBlock}
 use Rattle.image_check.specs.declared.errors.OpenError.TheVariants.{Image, RegionTooSmall, OutOfMemory, ReadFault}
 use Rattle.image_check.specs.EarlyTests.{has_front, has_magic, has_version, size_word}
-use Rattle.segment_c.specs.Opening.{IsNoImage, IsTooLongForRegion, IsWhyNotOpened, size_said}
-use Rattle.segment_c.specs.Opening.{code_of_cause}
+use Rattle.segment_c.specs.Opening.{IsNoImage, IsPlaced, IsTooLongForRegion, IsWhyNotOpened, size_said}
+use Rattle.segment_c.specs.Opening.{code_of_cause, place_of_cause}
 
 -- ---- the size
 
@@ -46,6 +46,15 @@ said_more image l =
     (or_right (nat_lt (length image) 144) (has_front current image && nat_lt (length image) (size_word image)) cut)
 
 -- ---- the codes
+
+-- for a class the place shows it, and for any other code it stays
+pub placed_why : (image : List ℕ) (cause : OpenError) (old code new : ℕ) → code ≡ code_of_cause cause
+    → new ≡ place_of_cause cause old → IsShown current image cause → IsPlaced image code old new
+placed_why image (Image v) old code new e p shown =
+    inr (v.class, e, subst (λ (n : ℕ). Shows current image v.class n) (sym p) shown)
+placed_why image RegionTooSmall old code new e p shown = inl (omega (arith, e), p)
+placed_why image (OutOfMemory refusal) old code new e p shown = inl (omega (arith, e), p)
+placed_why image ReadFault old code new e p shown = inl (omega (arith, e), p)
 
 -- bytes that are there are read
 given_read : (image : List ℕ) → IsUndecided current (as_given image) → ⊥

@@ -3,7 +3,7 @@ use Rattle.segment_c.proofs.images.zx_explain.Goals as goal
 use Rattle.std.proofs.Common.{◌≤◌, inr, length, refl, rules, subst, ℕ}
 use Rattle.std.specs.Prelude.{min}
 use Rattle.image_check.specs.declared.classes.ImageClass.TheVariants.{Truncated}
-use Rattle.segment_c.proofs.transactions.Images.{said_more, why_examined}
+use Rattle.segment_c.proofs.transactions.Images.{placed_why, said_more, why_examined}
 
 pub returns-then-len-size-clause-cause : goal.returns-then-len-size-clause-cause
 returns-then-len-size-clause-cause c = λ _.
@@ -19,3 +19,7 @@ returns-clause-cause c = λ _.
     let why = c.in-Err-open_bytes.ensures.opening.answers.why in
     rw c.refused_code.ensures.code
     (why_examined c.args.image.now (length c.in-Ok.region) c.in-Err-open_bytes.refused.cause why room)
+
+pub returns-clause-place : goal.returns-clause-place
+returns-clause-place c = placed_why c.args.image.now c.in-Err-open_bytes.refused.cause c.args.place.now _ _
+    c.refused_code.ensures.code c.refused_code.ensures.place c.in-Err-open_bytes.ensures.place

@@ -1,13 +1,14 @@
 -- A call goes on by another call of its handle: it ensures what that one ensures. Between the two the segment may have
 -- been taken and put back, and the arguments may be passed in another form.
-use Rattle.std.proofs.Common.{◌≡◌, ◌∙◌, ◌≤◌, ap, arith, pos, refl, subst, sym, ℕ, ℤ, None, Option, Some}
-use Rattle.seg_types.specs.Commands.{Integer, Literal, literal_of}
+use Rattle.std.proofs.Common.{◌≡◌, ◌∙◌, ◌≤◌, ap, arith, inr, pos, refl, subst, sym, ℕ, ℤ, None, Option, Some}
+use Rattle.seg_types.specs.Commands.{Command, Integer, Literal, literal_of}
 use Rattle.seg_types.specs.{declared.kinds.ScalarKind.ScalarKind, declared.kinds.ScalarKind.TheVariants.I64}
-use Rattle.segment_manager.specs.State.{SegmentState}
+use Rattle.segment_manager.specs.{Answers.Answer, State.SegmentState, State.TakesStep}
 use Rattle.segment_c.specs.{declared.values.CScalar.CScalar, Passed.literal_in, Passed.scalar_in, Passed.value_wrong}
 use Rattle.segment_c.specs.{declared.slot.Slot.Slot, Handles.AsksHandle, Handles.ChangesHandle}
-use Rattle.segment_c.specs.Handles.{ReadsHandle}
-use Rattle.segment_c.specs.{Calls.HoldsSegment, Calls.PerformsCall, Marked.RaisesMoves}
+use Rattle.segment_c.specs.Handles.{PutsBack, ReadsHandle}
+use Rattle.segment_c.specs.{Calls.HoldsSegment, Calls.PerformsCall, Marked.RaisesMoves, Marked.raised}
+use Rattle.segment_c.specs.{Codes.answer_for, declared.slot.Marks.Marks}
 
 -- a number that is passed
 module _ (v : CScalar) {n : ℤ} (e : scalar_in v ≡ Some (I64, n)) where
@@ -44,6 +45,31 @@ changes {code = code} {new = new} same back marks f r = record {
   call = performs same back f r.call;
   unchanged_on_error = λ e. r.unchanged_on_error e ∙ back;
   marks = subst (λ m. RaisesMoves code m new.marks) marks r.marks;
+}
+
+-- the segment is taken out of its handle, takes the step of a command, and is put back
+pub stepped : {said told : Answer} {Kept : Type 0} {code : ℕ} {old new : Slot} {m : Marks} {s t : SegmentState}
+    (it : Command) → old.segment.value ≡ Some s → PutsBack said told Kept code t new (raised m) → m ≡ old.marks
+    → TakesStep s t it told → (1 ≤ code → t ≡ s)
+    → ChangesHandle 0 code old new (λ s t. TakesStep s t it (answer_for code said))
+stepped {said} {code = code} {s = s} {t = t} it was back marks step stays = record {
+  call = record {
+    stopped = λ w. absurd (omega (arith, w));
+    closed = λ w none. absurd (let e : Some s ≡ None = sym was ∙ none in cc);
+    asked = λ u w is.
+        let e : Some s ≡ Some u = sym was ∙ is in
+        let f : s ≡ u = cc in (
+          back.answer,
+          subst (λ (q : Option SegmentState). HoldsSegment q (λ t. TakesStep u t it (answer_for code said)))
+              (sym back.effect) (subst (λ (v : SegmentState). TakesStep v t it (answer_for code said)) f
+              (subst (λ (a : Answer). TakesStep s t it a) (sym back.outcome) step)),
+        );
+  };
+  unchanged_on_error = λ e. back.effect ∙ ap Some (stays e) ∙ sym was;
+  marks = record {
+    counted = λ _. back.marked ∙ ap raised marks;
+    refused = λ _. inr (back.marked ∙ ap raised marks);
+  };
 }
 
 -- a call that asks the segment

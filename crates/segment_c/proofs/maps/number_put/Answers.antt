@@ -1,9 +1,21 @@
 use Rattle.segment_c.proofs.maps.number_put.Goals as goal
-use Rattle.std.proofs.{Common.ap, Common.subst, Common.sym, Common.w64, Common.◌∙◌, lemmas.Int.to_z-of_z}
-use Rattle.seg_types.specs.Commands.{Command, Integer, Put}
-use Rattle.segment_manager.specs.{Answers.Boolean, State.TakesStep}
+use Rattle.std.proofs.{Common.ap, Common.rules, Common.Some, Common.subst, Common.sym, Common.w64, Common.◌∙◌}
+use Rattle.std.proofs.lemmas.Int.{to_z-of_z}
+use Rattle.seg_types.specs.{Commands.Command, Commands.Integer, Commands.Put, Names.ByHandle}
+use Rattle.segment_manager.specs.{Answers.Boolean, State.TakesStep, State.truth_answer}
 use Rattle.segment_c.specs.{Codes.answer_for, Passed.or_else}
-use Rattle.segment_c.proofs.slot.GoingOn.{changes, number-is, number-right}
+use Rattle.segment_c.proofs.slot.GoingOn.{changes, number-is, number-right, stepped}
+
+pub returns-in-Some-clause-call : goal.returns-in-Some-clause-call
+returns-in-Some-clause-call c =
+    stepped {old = c.args.h.now} {new = c.truth.new.h}
+    (Put (ByHandle c.args.handle) (Integer c.args.at) (Integer c.args.value))
+    (c.in-Ok.ensures.transfer.0 ∙ ap Some (sym c.deref_mut.ensures.value)) c.truth.ensures
+    c.take.ensures.marks
+    (subst (λ (it : Command).
+    TakesStep c.deref_mut.result.now c.put_at-answer.new.segment it (truth_answer c.put_at-answer.result))
+    (λ i. Put (ByHandle c.args.handle) (Integer (to_z-of_z w64 c.args.at c.ranges.at i))
+    (Integer (to_z-of_z w64 c.args.value c.ranges.value i))) c.put_at-answer.ensures.step) (search rules)
 
 pub returns-clause-call : goal.returns-clause-call
 returns-clause-call c =

@@ -10,12 +10,17 @@ fn sell<D: Disk>(rt: &HostRuntime, disk: &mut D, till: &mut SegmentFile<D::Hold>
     Ok(till.commit(rt.alloc(), disk)?)
 }
 
+/// Begins to count in a till that is new, and sells two things.
+fn begin<D: Disk>(rt: &HostRuntime, disk: &mut D, till: &mut SegmentFile<D::Hold>) -> Result<()> {
+    till.segment.construct(&named("sales")?, 1, 0i64)?;
+    sell(rt, disk, till)?;
+    sell(rt, disk, till)
+}
+
 /// Makes a till and sells two things. It ends without a save, as a run that is killed.
 fn open_a_till<D: Disk>(rt: &HostRuntime, disk: &mut D) -> Result<()> {
     let mut till = SegmentFile::create(rt.alloc(), disk, "till.seg", 4096)?;
-    till.segment.construct(&named("sales")?, 1, 0i64)?;
-    sell(rt, disk, &mut till)?;
-    sell(rt, disk, &mut till)?;
+    begin(rt, disk, &mut till)?;
     till.close(disk);
     Ok(())
 }

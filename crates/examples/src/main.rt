@@ -63,14 +63,18 @@ fn run(rt: &HostRuntime, disk: &mut impl Disk) -> Result<()> {
     commits::commit_sales(rt, disk)
 }
 
-/// Runs the programs over the files of the system: the inventory if that is the first argument, or else the others.
-fn main(rt: HostRuntime) -> Result<()> {
-    let mut disk = HostDisk::new(&rt);
-    let arguments: Vec<String> = env::args(&rt)?.collect(rt.alloc())?;
-    match arguments.as_slice() {
+/// Runs the inventory if that is the first argument, or else the other programs.
+fn choose(rt: &HostRuntime, disk: &mut impl Disk, arguments: &[String]) -> Result<()> {
+    match arguments {
         [_, program, rest @ ..] if program.as_str() == "inventory" => {
-            inventory::keep_inventory(&rt, &mut disk, rest)
+            inventory::keep_inventory(rt, disk, rest)
         }
-        _ => run(&rt, &mut disk),
+        _ => run(rt, disk),
     }
+}
+
+/// Runs the programs over the files of the system.
+fn main(rt: HostRuntime) -> Result<()> {
+    let arguments: Vec<String> = env::args(&rt)?.collect(rt.alloc())?;
+    choose(&rt, &mut HostDisk::new(&rt), arguments.as_slice())
 }

@@ -26,12 +26,20 @@ fn append_value<T: Plain>(heap: &mut Heap, vector: SegVec<T>, value: T) -> Resul
 }
 
 /// Notes two departures, and reads the second.
-pub fn record_departures(rt: &HostRuntime) -> Result<()> {
-    let (mut heap, departures) = begun::<Time>(rt.alloc())?;
-    append_value(&mut heap, departures, Time::at(7, 40))?;
-    append_value(&mut heap, departures, Time::at(9, 5))?;
-    let count = departures.len(&heap);
-    let Time { hour, minute } = departures.get(&heap, 1)?;
+fn record(rt: &HostRuntime, heap: &mut Heap, departures: SegVec<Time>) -> Result<()>
+    requires { IsSomeVector ⟦<Time as Plain>⟧.SIZE ⟦<Time as Plain>⟧.is_value ⟦<Time as Plain>⟧.spelling
+        heap.old.bytes departures.place }
+{
+    append_value(heap, departures, Time::at(7, 40))?;
+    append_value(heap, departures, Time::at(9, 5))?;
+    let count = departures.len(heap);
+    let Time { hour, minute } = departures.get(heap, 1)?;
     println!(rt; "a type of one's own: {count} departures, the second at {hour}:{minute:02}")?;
     Ok(())
+}
+
+/// Makes a heap with a timetable in it, and records two departures.
+pub fn record_departures(rt: &HostRuntime) -> Result<()> {
+    let (mut heap, departures) = begun::<Time>(rt.alloc())?;
+    record(rt, &mut heap, departures)
 }

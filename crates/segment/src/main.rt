@@ -29,8 +29,11 @@ use segment_invocation::{
 };
 use segment_scripts::{Until, command_rows};
 use std::env::var;
+use std::fs::File;
 use std::io::{self, IsTerminal, Read, Write};
 use std::process::ExitCode;
+use std::rt::Files;
+use std::time::Clock;
 
 /// If a second line says why a command failed, whatever standard error is.
 const VERBOSE: &str = "SEGMENT_VERBOSE";
@@ -133,12 +136,25 @@ fn perform(rt: &HostRuntime, asked: &Request<'_>) -> Result<u8, NoAnswerMemory> 
     Ok(status)
 }
 
+/// A disk that tells why its last call failed. `Host` takes any such disk, because each call with a disk of a known
+/// type costs the prover seconds.
+trait TellingDisk: Disk {
+    /// Returns the last problem with a file, if there was one.
+    fn trouble(&self) -> Option<FileProblem>;
+}
+
+impl<'a, R: Files<File = File> + AllocGlobal + Clock> TellingDisk for HostDisk<'a, R> {
+    fn trouble(&self) -> Option<FileProblem> {
+        HostDisk::trouble(self)
+    }
+}
+
 /// The system, as a command uses it.
 #[derive(Drop)]
-struct Host<'a> {
+struct Host<'a, D> {
     rt: &'a HostRuntime,
     /// The files of segments.
-    disk: HostDisk<'a, HostRuntime>,
+    disk: D,
     /// The files of scripts.
     scripts: HostDisk<'a, HostRuntime>,
     /// Whether a run commits what it changed.
@@ -147,7 +163,7 @@ struct Host<'a> {
     is_verbose: bool,
 }
 
-impl<'a> Host<'a> {
+impl<'a, D: TellingDisk> Host<'a, D> {
     /// Returns what the system said of the script that was to be opened, or else of the file, and its path. Of a path
     /// that is no UTF-8 the system is told nothing.
     fn trouble_of<'b>(&self, options: &Options<'b>) -> Option<(&'b str, FileProblem)> {
@@ -199,18 +215,15 @@ impl<'a> Host<'a> {
     ) -> Result<u8, CommandFault>
         requires { out.history ≡ nothing_taken }
     {
-        let alloc = self.rt.alloc();
-        let disk = &mut self.disk;
         let how = &asked.options;
         let mut out = out;
         let answer = match &asked.command {
-            Invocation::Create(file, size) => create(alloc, disk, file, *size),
+            Invocation::Create(file, size) => self.create(file, *size),
             Invocation::Run(file, mode, size) => {
                 return self.answer(&run_request(file, *mode, *size, how), how, out);
             }
-            Invocation::Check(file) if how.explain => explain(alloc, disk, file, &mut out),
-            Invocation::Check(file) if how.files.len() < 2 && !how.quiet => {
-                check(alloc, disk, file, &mut out)
+            Invocation::Check(file) if how.explain || how.files.len() < 2 && !how.quiet => {
+                self.check_file(file, how.explain, &mut out)
             }
             Invocation::Check(_) => return self.check_files(how, &mut out),
             Invocation::Grow(file, bytes) => self.change(
@@ -221,30 +234,12 @@ impl<'a> Host<'a> {
             ),
             Invocation::Shrink(file) => self.change(file, FileChange::Shrink, how, &mut out),
             Invocation::Migrate(file) => self.change(file, FileChange::Migrate, how, &mut out),
-            Invocation::Tell(file, what @ (Report::Picture | Report::Page)) if !how.all => {
-                tell_few(alloc, disk, file, &mut out, *what)
-            }
-            Invocation::Tell(file, what) => tell_segment(alloc, disk, file, &mut out, *what),
-            Invocation::Names(file, prefix, most) => {
-                let most = most.unwrap_or(u64::MAX);
-                names(alloc, disk, file, prefix, most, &mut out)
-            }
-            Invocation::Get(file, key, index) => {
-                let index = index.map(|index| index.as_bytes());
-                get(alloc, disk, file, key.as_bytes(), index, &mut out)
-            }
-            Invocation::Load(file, size) => {
-                let mut text = StdSource::new(self.rt.reader());
-                match how.keeping.saving {
-                    SaveMode::InPlace => load(alloc, disk, file, *size, &mut text),
-                    SaveMode::Replacing => load_over(alloc, disk, file, *size, &mut text),
-                }
-            }
+            Invocation::Tell(file, what) => self.tell_segment(file, *what, how.all, &mut out),
+            Invocation::Names(file, prefix, most) => self.names(file, prefix, *most, &mut out),
+            Invocation::Get(file, key, index) => self.get(file, key, *index, &mut out),
+            Invocation::Load(file, size) => self.load(file, *size, how.keeping.saving),
             Invocation::Salvage(file) => return self.salvage(file, &mut out),
-            Invocation::Lint => {
-                let mut script = StdSource::new(self.rt.reader());
-                lint(command_rows(), &mut script, &mut out)
-            }
+            Invocation::Lint => self.lint(&mut out),
             Invocation::Language => print_language(&mut out, command_rows()),
             Invocation::Version => print(&mut out, VERSION),
         };
@@ -253,6 +248,107 @@ impl<'a> Host<'a> {
             Err(_) if ends_quietly(asked) && out.is_closed_pipe() => Ok(CLOSED_PIPE),
             Err(fault) => Err(fault),
         }
+    }
+
+    /// Makes a file with an empty segment.
+    fn create(&mut self, file: &str, size: u64) -> Result<(), CommandFault> {
+        create(self.rt.alloc(), &mut self.disk, file, size)
+    }
+
+    /// Checks one file. If `explains` is true, it prints what is wrong.
+    fn check_file<W: Write + Drop>(
+        &mut self,
+        file: &str,
+        explains: bool,
+        out: &mut StdOutput<W>,
+    ) -> Result<(), CommandFault>
+        requires { out.old.history ≡ nothing_taken }
+    {
+        let alloc = self.rt.alloc();
+        let disk = &mut self.disk;
+        if explains {
+            explain(alloc, disk, file, out)
+        } else {
+            check(alloc, disk, file, out)
+        }
+    }
+
+    /// Prints a report of the segment in a file. A picture of more than 10,000 objects is refused unless `all` is true.
+    fn tell_segment<W: Write + Drop>(
+        &mut self,
+        file: &str,
+        what: Report,
+        all: bool,
+        out: &mut StdOutput<W>,
+    ) -> Result<(), CommandFault>
+        requires { out.old.history ≡ nothing_taken }
+    {
+        let alloc = self.rt.alloc();
+        let disk = &mut self.disk;
+        match what {
+            Report::Picture | Report::Page if !all => tell_few(alloc, disk, file, out, what),
+            _ => tell_segment(alloc, disk, file, out, what),
+        }
+    }
+
+    /// Prints at most `most` of the names that begin with `prefix`, or all.
+    fn names<W: Write + Drop>(
+        &mut self,
+        file: &str,
+        prefix: &str,
+        most: Option<u64>,
+        out: &mut StdOutput<W>,
+    ) -> Result<(), CommandFault>
+        requires { out.old.history ≡ nothing_taken }
+    {
+        let most = most.unwrap_or(u64::MAX);
+        names(self.rt.alloc(), &mut self.disk, file, prefix, most, out)
+    }
+
+    /// Prints the value at an index, or at a key of a map. Without an index it prints the whole string, or the first
+    /// value.
+    fn get<W: Write + Drop>(
+        &mut self,
+        file: &str,
+        key: &str,
+        index: Option<&str>,
+        out: &mut StdOutput<W>,
+    ) -> Result<(), CommandFault>
+        requires { out.old.history ≡ nothing_taken }
+    {
+        let index = index.map(|index| index.as_bytes());
+        get(
+            self.rt.alloc(),
+            &mut self.disk,
+            file,
+            key.as_bytes(),
+            index,
+            out,
+        )
+    }
+
+    /// Makes a segment of the dump on standard input, in a new file, or over another if `saving` says so.
+    fn load(
+        &mut self,
+        file: &str,
+        size: Option<u64>,
+        saving: SaveMode,
+    ) -> Result<(), CommandFault> {
+        let alloc = self.rt.alloc();
+        let disk = &mut self.disk;
+        let mut text = StdSource::new(self.rt.reader());
+        match saving {
+            SaveMode::InPlace => load(alloc, disk, file, size, &mut text),
+            SaveMode::Replacing => load_over(alloc, disk, file, size, &mut text),
+        }
+    }
+
+    /// Tells which lines of the script on standard input are no commands.
+    fn lint<W: Write + Drop>(&mut self, out: &mut StdOutput<W>) -> Result<(), CommandFault>
+        requires { out.old.history ≡ nothing_taken }
+    {
+        let mut script = StdSource::new(self.rt.reader());
+        lint(command_rows(), &mut script, out)
     }
 
     /// Checks the files of the command line, and returns the worst of their statuses.
@@ -264,16 +360,14 @@ impl<'a> Host<'a> {
         requires { out.old.history ≡ nothing_taken }
     {
         let is_verbose = self.is_verbose;
-        let trouble_of = |disk: &HostDisk<'_, HostRuntime>| {
-            if is_verbose { disk.trouble() } else { None }
-        };
+        let trouble_of = |disk: &D| { if is_verbose { disk.trouble() } else { None } };
         let request = CheckRequest {
             files: how.files.as_slice(),
             is_quiet: how.quiet,
         };
         let mut err = StdSink::new(self.rt.stderr());
-        let (alloc, disk) = (self.rt.alloc(), &mut self.disk);
-        check_all(alloc, disk, &request, trouble_of, out, &mut err)
+        let alloc = self.rt.alloc();
+        check_all(alloc, &mut self.disk, &request, trouble_of, out, &mut err)
     }
 
     /// Dumps what is right of the image in a file, and returns the status. What was left out of a file that a writer
@@ -304,8 +398,14 @@ impl<'a> Host<'a> {
     ) -> Result<(), CommandFault>
         requires { out.old.history ≡ nothing_taken }
     {
-        let (alloc, disk) = (self.rt.alloc(), &mut self.disk);
-        change(alloc, disk, file, by, how.keeping.saving, out)
+        change(
+            self.rt.alloc(),
+            &mut self.disk,
+            file,
+            by,
+            how.keeping.saving,
+            out,
+        )
     }
 
     /// Runs the script that the command line asks for, and returns the status. Its answers go out as they are, or
@@ -391,7 +491,8 @@ impl<'a> Host<'a> {
         requires out { O.history out.old ≡ nothing_taken }
         ensures { IfOk result (λ status. status ≡ 0) }
     {
-        let (alloc, disk) = (self.rt.alloc(), &mut self.disk);
+        let alloc = self.rt.alloc();
+        let disk = &mut self.disk;
         if self.is_committing {
             run_and_commit(alloc, disk, request, script, out)?;
         } else {

@@ -308,7 +308,10 @@ impl<'a, R: Files<File = File> + AllocGlobal + Clock> HostDisk<'a, R> {
         ensures { IfOk result (λ opened. opened.reader.history ≡ nothing_given) }
     {
         let may_have_log = self.has_logs && found.is_file();
-        if !may_have_log || matches!(has_log(self.files, path), Ok(false)) {
+        // a checkpoint replaces the file before it empties the log
+        let is_alone = !may_have_log
+            || matches!(has_log(self.files, path), Ok(false)) && leads_to(self.files, path, &file);
+        if is_alone {
             let reader = StdSource::new(HostReader::Plain(file));
             let len = found.len();
             return Ok(OpenedFile { reader, len });

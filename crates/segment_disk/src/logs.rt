@@ -7,11 +7,12 @@ use crate::file_problems::problem_of;
 use crate::locks::leads_to;
 use crate::presence::FileProblem;
 use segment_log::{
-    CommittedImage, RecoverError, RecoveredImage, recover, repaired_is_ready, shut_gate,
+    CommittedImage, GATE_LEN, RecoverError, RecoveredImage, recover, repaired_is_ready, shut_gate,
 };
 use std::alloc::{AllocError, Global};
 use std::fs::{self, File};
 use std::io::{self, ErrorKind, Read};
+use std::os::unix::fs::FileExt;
 use std::path::PathBuf;
 use std::rt::Files;
 
@@ -21,7 +22,14 @@ const MAX_PATH_LEN: usize = 4096;
 /// How the name of a log ends, behind that of its file.
 const SUFFIX: [u8; 4] = *b"-log";
 
-/// How often a file is read with its log, until the two belong together.
+/// The bytes at the front of a log that no log before it in the same file has: the first gate, the length of the first
+/// payload, and the payload up to the end of its tag.
+const HEAD_LEN: usize = GATE_LEN + 48;
+
+/// How often a file and its log are read that a writer changes meanwhile.
+const TRIES: usize = 64;
+
+/// How often a file is read with a log that seems to be that of another file, since a writer may be about to remove it.
 const READINGS: usize = 8;
 
 /// Why a file can't be read or written with its log, as far as that is known.
@@ -94,23 +102,52 @@ pub(crate) fn log_paths<R: Files + AllocGlobal>(
     Ok((real, log))
 }
 
-/// Returns the bytes of a log, and none if it is not there. What is no file on a disk is no log of a file.
+/// Opens a log. Returns nothing if it does not exist. What is no file on a disk is no log of a file.
+fn open_log<R: Files<File = File>>(files: &R, log: &str) -> Result<Option<File>, LogTrouble> {
+    match fs::symlink_metadata(files, log) {
+        Ok(found) if found.is_file() => Ok(Some(fs::open(files, log).map_err(trouble_of)?)),
+        Ok(_) => Err(Some(FileProblem::ForeignLog)),
+        Err(error) if error.kind() == ErrorKind::NotFound => Ok(None),
+        Err(error) => Err(trouble_of(error)),
+    }
+}
+
+/// Returns the bytes of a log, or no bytes if it does not exist.
 pub(crate) fn read_log<R: Files<File = File> + AllocGlobal>(
     rt: &R,
     log: &str,
 ) -> Result<Vec<u8>, LogTrouble> {
-    let mut bytes = Vec::new(rt.alloc());
-    let found = match fs::symlink_metadata(rt, log) {
-        Ok(found) => found,
-        Err(error) if error.kind() == ErrorKind::NotFound => return Ok(bytes),
-        Err(error) => return Err(trouble_of(error)),
-    };
-    if !found.is_file() {
-        return Err(Some(FileProblem::ForeignLog));
+    match open_log(rt, log)? {
+        Some(mut file) => read_file(rt.alloc(), &mut file),
+        None => Ok(Vec::new(rt.alloc())),
     }
-    let mut file = fs::open(rt, log).map_err(trouble_of)?;
-    file.read_to_end(&mut bytes).map_err(trouble_of)?;
-    Ok(bytes)
+}
+
+/// Reads the head of a log, or the whole log if it is shorter.
+fn read_head<'a>(log: &File, head: &'a mut [u8; HEAD_LEN]) -> io::Result<&'a [u8]> {
+    let len = log.read_at(head, 0)?;
+    Ok(&head[..len])
+}
+
+/// Returns the bytes of a log that another process may write, or no bytes if it has no record. Returns `None` if the
+/// other process emptied the log during the read: then these may be bytes of two logs.
+fn read_shared_log<R: Files<File = File> + AllocGlobal>(
+    rt: &R,
+    log: &str,
+) -> Result<Option<Vec<u8>>, LogTrouble> {
+    let none = Vec::new(rt.alloc());
+    let Some(mut file) = open_log(rt, log)? else {
+        return Ok(Some(none));
+    };
+    let (mut before, mut after) = ([0; HEAD_LEN], [0; HEAD_LEN]);
+    let head = read_head(&file, &mut before).map_err(trouble_of)?;
+    if !head.starts_with(&[1]) {
+        return Ok(Some(none));
+    }
+    let bytes = read_file(rt.alloc(), &mut file)?;
+    let is_same = bytes.starts_with(head)
+        && read_head(&file, &mut after).map_err(trouble_of)? == head;
+    Ok(is_same.then_some(bytes))
 }
 
 /// Returns what the bytes of a file stand for with those of its log. The log of another file is refused.
@@ -165,19 +202,42 @@ pub(crate) fn read_file(alloc: Global, file: &mut File) -> Result<Vec<u8>, LogTr
     Ok(bytes)
 }
 
-/// Returns what a file that was opened by a path stands for with its log, which is read first.
+/// Returns what a file that was opened by a path stands for with its log, which is read first. Returns `None` if
+/// another process emptied the log or replaced the file.
 fn read_once<R: Files<File = File> + AllocGlobal>(
     rt: &R,
     path: &str,
     file: &mut File,
-) -> Result<RecoveredImage, LogTrouble> {
+) -> Result<Option<RecoveredImage>, LogTrouble> {
     let (_, log) = log_paths(rt, path).map_err(trouble_of)?;
-    let bytes = read_log(rt, log.as_str())?;
-    recovered(read_file(rt.alloc(), file)?, &bytes)
+    let Some(bytes) = read_shared_log(rt, log.as_str())? else {
+        return Ok(None);
+    };
+    let made = recovered(read_file(rt.alloc(), file)?, &bytes);
+    if leads_to(rt, path, file) {
+        Ok(Some(made?))
+    } else {
+        Ok(None)
+    }
 }
 
-/// Returns what the file of a path, which was opened, stands for with its log. Both are read again if another file took
-/// the name meanwhile, and if they do not belong together.
+/// Reads a file and its log as [`read_recovered`] does. The log may seem to be that of another file.
+fn read_unchanged<R: Files<File = File> + AllocGlobal>(
+    rt: &R,
+    path: &str,
+    file: &mut File,
+) -> Result<RecoveredImage, LogTrouble> {
+    for _ in 0..TRIES {
+        if let Some(made) = read_once(rt, path, file)? {
+            return Ok(made);
+        }
+        *file = fs::open(rt, path).map_err(trouble_of)?;
+    }
+    Err(Some(FileProblem::Writer))
+}
+
+/// Returns what the file of a path, which was opened, stands for with its log: an image that both had together during
+/// the call. Both are read again if another process changed them meanwhile.
 pub(crate) fn read_recovered<R: Files<File = File> + AllocGlobal>(
     rt: &R,
     path: &str,
@@ -185,13 +245,11 @@ pub(crate) fn read_recovered<R: Files<File = File> + AllocGlobal>(
 ) -> Result<RecoveredImage, LogTrouble> {
     let mut file = opened;
     for _ in 1..READINGS {
-        let read = read_once(rt, path, &mut file);
-        // what a writer changed between two readings may look like the log of another file
-        let is_foreign = matches!(read, Err(Some(FileProblem::ForeignLog)));
-        if !is_foreign && leads_to(rt, path, &file) {
-            return read;
+        match read_unchanged(rt, path, &mut file) {
+            Err(Some(FileProblem::ForeignLog)) => {}
+            read => return read,
         }
         file = fs::open(rt, path).map_err(trouble_of)?;
     }
-    read_once(rt, path, &mut file)
+    read_unchanged(rt, path, &mut file)
 }

@@ -53,9 +53,10 @@ static zx_code open_unheld(zx_file *file, const char *path, uint32_t how) {
         if (code != ZX_DONE) return code;
         code = read_both(file, path, &sight, how);
         // the name led to a file when it was looked at, and is looked at once more
-        if (code != AGAIN && (code != ZX_FILE_LOG_FOREIGN || ++readings == READINGS)) return code;
+        bool has_changed = code == AGAIN || code == ZX_FILE_IN_USE;
+        if (!has_changed && (code != ZX_FILE_LOG_FOREIGN || ++readings == READINGS)) return code;
     }
-    return faulty(file, ZX_FILE_MISSING, ENOENT);
+    return code == ZX_FILE_IN_USE ? code : faulty(file, ZX_FILE_MISSING, ENOENT);
 }
 
 /* Creates the file with an empty segment. */

@@ -4,6 +4,10 @@
 /* The bytes of a gate, of the front of a payload, and of an edit without those that it puts. */
 enum { GATE = 4096, FRONT = 40, EDIT = 16 };
 
+/* The bytes at the front of a log that no log before it in the same file has: the first gate, the length of the first
+   payload, and its front, which has the tag. */
+enum { HEAD = GATE + 8 + FRONT };
+
 /* A log may be so long, or a quarter of its image. A test has a shorter one. */
 #ifndef LONG_LOG
 #define LONG_LOG (1 << 20)
@@ -46,21 +50,32 @@ static zx_code open_log(zx_file *file, struct zx_held_file *held) {
     return S_ISREG(found.st_mode) ? (zx_code)ZX_DONE : faulty(file, ZX_FILE_FAULT, EINVAL);
 }
 
-/* Reads a log, or its first gate if that is shut. */
+/* Checks that a log has the head that it had before it was read. */
+static zx_code has_head(zx_file *file, int from, const uint8_t *before, size_t len, const struct image *log) {
+    uint8_t after[HEAD];
+    ssize_t again = read_at(from, after, HEAD, 0);
+    if (again < 0) return fault(file);
+    bool is_same = (size_t)again == len && log->len >= len && memcmp(before, log->bytes, len) == 0 &&
+                   memcmp(before, after, len) == 0;
+    return is_same ? (zx_code)ZX_DONE : faulty(file, ZX_FILE_IN_USE, EWOULDBLOCK);
+}
+
+/* Reads a log that another process may write. Leaves `log` without bytes if the log has no record. Returns
+   ZX_FILE_IN_USE if the other process emptied the log meanwhile: then the bytes may be those of two logs. */
 static zx_code read_log(zx_file *file, int from, struct image *log) {
     struct stat found;
-    uint8_t gate = 0;
-    if (fstat(from, &found) != 0 || read_at(from, &gate, 1, 0) < 0) return fault(file);
-    uint64_t len = (uint64_t)found.st_size;
-    *log = room_for(gate == 1 ? len : at_most(len, GATE));
+    uint8_t before[HEAD];
+    ssize_t head = read_at(from, before, HEAD, 0);
+    if (head < 0 || fstat(from, &found) != 0) return fault(file);
+    if (head == 0 || before[0] != 1) return ZX_DONE;
+    *log = room_for((uint64_t)found.st_size);
     if (!log->bytes) return ZX_NO_MEMORY;
     ssize_t got = read_at(from, log->bytes, log->len, 0);
-    if (got >= 0) {
-        log->len = (uint64_t)got;
-        return ZX_DONE;
-    }
-    zx_code code = fault(file);
+    if (got >= 0) log->len = (uint64_t)got;
+    zx_code code = got < 0 ? fault(file) : has_head(file, from, before, (size_t)head, log);
+    if (code == ZX_DONE) return code;
     free(log->bytes);
+    log->bytes = NULL;
     return code;
 }
 

@@ -221,8 +221,8 @@ static zx_code read_with_log(zx_file *file, int from, const struct image *log, u
     return code;
 }
 
-/* Opens and reads the log of the file at `path`. Leaves `log` without bytes if there is no log, or if its first byte is
-   not 1, so that it does not count. */
+/* Opens and reads the log of the file at `path`. Leaves `log` without bytes if the file has no log, or the log has no
+   record. */
 static zx_code log_of(zx_file *file, const char *path, struct image *log) {
     char name[PATH_MAX + 8];
     *log = (struct image){ NULL, 0 };
@@ -231,8 +231,5 @@ static zx_code log_of(zx_file *file, const char *path, struct image *log) {
     if (from < 0) return is_no_log(errno) ? (zx_code)ZX_DONE : errno == EINTR ? (zx_code)AGAIN : fault(file);
     zx_code code = read_log(file, from, log);
     close(from);
-    if (code == ZX_DONE && log->len > 0 && log->bytes[0] == 1) return ZX_DONE;
-    if (code == ZX_DONE) free(log->bytes);
-    log->bytes = NULL;
     return code;
 }

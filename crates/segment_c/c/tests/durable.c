@@ -1,5 +1,6 @@
 /* durable FOLDER [SMALL]: commits meet a fork, readers, other files under the name, a hard link, a folder that may not be
-   written, and with SMALL, a disk of 1 MiB, a full disk. */
+   written, and with SMALL, a disk of 1 MiB, a full disk. It is linked with --wrap=pread,--wrap=pwrite,--wrap=fdatasync, so
+   that processes can meet between any two pages. */
 #define _GNU_SOURCE
 #include "zaluxhoni_files.h"
 
@@ -27,6 +28,44 @@ static void is_same(long long got, long long wanted, const char *what, int line)
     wrong++;
     printf("durable.c:%d: WRONG %s: %lld, not %lld\n", line, what, got, wanted);
 }
+
+/* ---- calls of the system by the library */
+
+ssize_t __real_pread(int file, void *bytes, size_t len, off_t from);
+ssize_t __real_pwrite(int file, const void *bytes, size_t len, off_t from);
+int __real_fdatasync(int file);
+
+/* Whether each call reads or writes one page at a time, and often waits after a page, as if the system ran others. */
+static bool is_slow;
+static unsigned seed = 1;
+
+static size_t part_of(size_t len) { return is_slow && len > 4096 ? 4096 : len; }
+
+static void wait_often(void) {
+    if (is_slow && rand_r(&seed) % 4 == 0) usleep(rand_r(&seed) % 300);
+}
+
+ssize_t __wrap_pread(int file, void *bytes, size_t len, off_t from) {
+    size_t count = 0;
+    for (ssize_t got = 1; count < len && got > 0; count += (size_t)got) {
+        got = __real_pread(file, (uint8_t *)bytes + count, part_of(len - count), from + (off_t)count);
+        if (got < 0) return got;
+        wait_often();
+    }
+    return (ssize_t)count;
+}
+
+ssize_t __wrap_pwrite(int file, const void *bytes, size_t len, off_t from) {
+    wait_often();
+    return __real_pwrite(file, bytes, part_of(len), from);
+}
+
+int __wrap_fdatasync(int file) {
+    wait_often();
+    return __real_fdatasync(file);
+}
+
+/* ---- cases */
 
 static int64_t number(zx_file *file, const char *name) {
     zx_key key = zx_name(name);
@@ -111,9 +150,9 @@ static void a_longer_image(const char *folder) {
 
 /* A child commits, with checkpoints, and this process reads: n and m are always equal, and never become smaller. It reads
    until it has seen commits of the child, which may begin late. */
-static void a_reader(const char *folder) {
+static void a_reader(const char *folder, uint64_t size, int readings) {
     zx_file file = ZX_CLOSED_FILE, reader = ZX_CLOSED_FILE;
-    make(&file, folder, 300000);
+    make(&file, folder, size);
     zx_file_discard(&file);
     pid_t child = fork();
     if (child == 0) {
@@ -126,12 +165,13 @@ static void a_reader(const char *folder) {
     }
     int64_t last = 1;
     const time_t until = time(NULL) + PATIENCE;
-    for (int i = 0; i < 3000 || (last == 1 && time(NULL) < until && waitpid(child, NULL, WNOHANG) == 0); i++) {
+    for (int i = 0; i < readings || (last == 1 && time(NULL) < until && waitpid(child, NULL, WNOHANG) == 0); i++) {
         zx_code code = zx_file_open(&reader, path, ZX_OPEN_READ_ONLY, 0);
         IS(code, ZX_DONE);
         if (code != ZX_DONE) continue;
         int64_t n = number(&reader, "n");
-        IS(n == number(&reader, "m") && n >= last, true);
+        IS(number(&reader, "m"), n);
+        if (n < last) IS(n, last);
         last = n;
         zx_file_discard(&reader);
     }
@@ -250,7 +290,10 @@ int main(int count, char **words) {
     if (count < 2) return 2;
     a_fork(words[1]);
     a_longer_image(words[1]);
-    a_reader(words[1]);
+    a_reader(words[1], 300000, 3000);
+    is_slow = true;
+    a_reader(words[1], 8192, 1000);
+    is_slow = false;
     another_file(words[1]);
     a_hard_link(words[1]);
     a_closed_folder(words[1]);

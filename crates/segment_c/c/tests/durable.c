@@ -35,29 +35,27 @@ ssize_t __real_pread(int file, void *bytes, size_t len, off_t from);
 ssize_t __real_pwrite(int file, const void *bytes, size_t len, off_t from);
 int __real_fdatasync(int file);
 
-/* Whether each call reads or writes one page at a time, and often waits after a page, as if the system ran others. */
+/* Whether a call often waits after the first page that it reads, and before it writes or syncs, as if the system ran
+   another process then. */
 static bool is_slow;
 static unsigned seed = 1;
 
-static size_t part_of(size_t len) { return is_slow && len > 4096 ? 4096 : len; }
-
 static void wait_often(void) {
-    if (is_slow && rand_r(&seed) % 4 == 0) usleep(rand_r(&seed) % 300);
+    if (is_slow && rand_r(&seed) % 2 == 0) usleep(rand_r(&seed) % 1000);
 }
 
 ssize_t __wrap_pread(int file, void *bytes, size_t len, off_t from) {
-    size_t count = 0;
-    for (ssize_t got = 1; count < len && got > 0; count += (size_t)got) {
-        got = __real_pread(file, (uint8_t *)bytes + count, part_of(len - count), from + (off_t)count);
-        if (got < 0) return got;
-        wait_often();
-    }
-    return (ssize_t)count;
+    const size_t first = is_slow && len > 4096 ? 4096 : len;
+    ssize_t got = __real_pread(file, bytes, first, from);
+    if (got < (ssize_t)first || first == len) return got;
+    wait_often();
+    ssize_t more = __real_pread(file, (uint8_t *)bytes + first, len - first, from + (off_t)first);
+    return more < 0 ? more : got + more;
 }
 
 ssize_t __wrap_pwrite(int file, const void *bytes, size_t len, off_t from) {
     wait_often();
-    return __real_pwrite(file, bytes, part_of(len), from);
+    return __real_pwrite(file, bytes, len, from);
 }
 
 int __wrap_fdatasync(int file) {
@@ -292,7 +290,7 @@ int main(int count, char **words) {
     a_longer_image(words[1]);
     a_reader(words[1], 300000, 3000);
     is_slow = true;
-    a_reader(words[1], 8192, 1000);
+    a_reader(words[1], 8192, 2000);
     is_slow = false;
     another_file(words[1]);
     a_hard_link(words[1]);

@@ -42,7 +42,7 @@ impl Article {
         [a, b, c, d, e, f, g, h, i, j, k, l, m, n, o, p]
     }
 
-    /// Returns its kilograms; 0 if the bits are those of no number.
+    /// Returns the weight in kilograms, or 0 if its bits encode NaN.
     fn kilograms(self) -> f64 {
         if self.weight % 0x8000_0000_0000_0000 > 0x7ff0_0000_0000_0000 {
             return 0.0;

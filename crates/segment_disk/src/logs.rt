@@ -102,13 +102,25 @@ pub(crate) fn log_paths<R: Files + AllocGlobal>(
     Ok((real, log))
 }
 
+/// Returns no log if an error says that none exists.
+fn no_log(error: io::Error) -> Result<Option<File>, LogTrouble> {
+    match error.kind() {
+        ErrorKind::NotFound => Ok(None),
+        _ => Err(trouble_of(error)),
+    }
+}
+
 /// Opens a log. Returns nothing if it does not exist. What is no file on a disk is no log of a file.
 fn open_log<R: Files<File = File>>(files: &R, log: &str) -> Result<Option<File>, LogTrouble> {
     match fs::symlink_metadata(files, log) {
-        Ok(found) if found.is_file() => Ok(Some(fs::open(files, log).map_err(trouble_of)?)),
-        Ok(_) => Err(Some(FileProblem::ForeignLog)),
-        Err(error) if error.kind() == ErrorKind::NotFound => Ok(None),
-        Err(error) => Err(trouble_of(error)),
+        Ok(found) if found.is_file() => {}
+        Ok(_) => return Err(Some(FileProblem::ForeignLog)),
+        Err(error) => return no_log(error),
+    }
+    // another process may have removed it
+    match fs::open(files, log) {
+        Ok(file) => Ok(Some(file)),
+        Err(error) => no_log(error),
     }
 }
 

@@ -65,8 +65,7 @@ static zx_code make_empty(zx_file *file, struct zx_held_file *held, uint64_t siz
     zx_code code = zx_create(&file->segment, size);
     if (code == ZX_DONE) code = image_of(&file->segment, &image);
     if (code != ZX_DONE) return code;
-    code = drop_log(file, held);
-    if (code == ZX_DONE) code = make_held(file, held, &image);
+    code = make_without_log(file, held, &image);
     free(image.bytes);
     return code;
 }
@@ -188,15 +187,14 @@ static zx_code put(zx_file *file, const char *path, uint32_t mode, const struct 
             bool is_there = held->file >= 0 && fstat(file->held->file, &own) == 0 && is_same(&own, &found);
             code = is_there ? zx_file_save(file) : faulty(file, ZX_FILE_REPLACED, ESTALE);
         } else if (held->file < 0) {
-            code = drop_log(file, held);
-            if (code == ZX_DONE) code = make_held(file, held, image);
+            code = make_without_log(file, held, image);
             if (code == ZX_DONE) code = sync_name(file, held);
         } else {
             code = settle_log(file, held, &found);
             if (code == ZX_FILE_LOG_FOREIGN) code = drop_log(file, held);
             if (code == ZX_DONE) code = save_held(file, held, image);
         }
-        release(held);
+        abandon(held);
         if (code != AGAIN) return code;
     }
     return faulty(file, ZX_FILE_IN_USE, EWOULDBLOCK);

@@ -177,11 +177,21 @@ static zx_code settle_log(zx_file *file, struct zx_held_file *held, struct stat 
     return code == ZX_DONE && fstat(held->file, found) != 0 ? fault(file) : code;
 }
 
-/* Removes the log of a file that does not exist, or whose bytes don't matter because all of them are replaced. */
+/* Removes a log that no longer counts: the file was just created, or all of its bytes are about to be replaced. */
 static zx_code drop_log(zx_file *file, struct zx_held_file *held) {
     char log[PATH_MAX + 8];
+    enum state state = held->state;
     bool is_gone = name_log(held->name, log) && unlinkat(held->folder, log, 0) == 0;
-    return is_gone ? synced(sync_name(file, held)) : (zx_code)ZX_DONE;
+    zx_code code = is_gone ? synced(sync_name(file, held)) : (zx_code)ZX_DONE;
+    held->state = state;
+    return code;
+}
+
+/* Creates the file of a name, and removes a log that was left beside the name. In this order: before the file is held,
+   the log may be that of a process that creates the file at the same time. */
+static zx_code make_without_log(zx_file *file, struct zx_held_file *held, const struct image *image) {
+    zx_code code = make_held(file, held, image);
+    return code == ZX_DONE ? drop_log(file, held) : code;
 }
 
 /* ---- a file that is read while another process may write it */

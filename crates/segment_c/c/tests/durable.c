@@ -1,6 +1,6 @@
-/* durable FOLDER [SMALL]: commits meet a fork, readers, other files under the name, a hard link, a folder that may not be
-   written, and with SMALL, a disk of 1 MiB, a full disk. It is linked with --wrap=pread,--wrap=pwrite,--wrap=fdatasync, so
-   that processes can meet between any two pages. */
+/* durable FOLDER [SMALL]: commits meet a fork, readers, another creator, other files under the name, a hard link, a folder
+   that may not be written, and with SMALL, a disk of 1 MiB, a full disk. It is linked with --wrap=pread,--wrap=pwrite,
+   --wrap=fdatasync,--wrap=linkat,--wrap=unlinkat, so that processes meet within a call. */
 #define _GNU_SOURCE
 #include "zaluxhoni_files.h"
 
@@ -34,6 +34,8 @@ static void is_same(long long got, long long wanted, const char *what, int line)
 ssize_t __real_pread(int file, void *bytes, size_t len, off_t from);
 ssize_t __real_pwrite(int file, const void *bytes, size_t len, off_t from);
 int __real_fdatasync(int file);
+int __real_linkat(int from, const char *one, int to, const char *other, int how);
+int __real_unlinkat(int folder, const char *path, int how);
 
 /* Whether a call often waits after the first page that it reads, and before it writes or syncs, as if the system ran
    another process then. */
@@ -61,6 +63,25 @@ ssize_t __wrap_pwrite(int file, const void *bytes, size_t len, off_t from) {
 int __wrap_fdatasync(int file) {
     wait_often();
     return __real_fdatasync(file);
+}
+
+/* What another process does once, in front of the next call that gives a name or takes one away. */
+static void (*in_between)(void);
+
+static void come_between(void) {
+    void (*what)(void) = in_between;
+    in_between = NULL;
+    if (what) what();
+}
+
+int __wrap_linkat(int from, const char *one, int to, const char *other, int how) {
+    come_between();
+    return __real_linkat(from, one, to, other, how);
+}
+
+int __wrap_unlinkat(int folder, const char *name, int how) {
+    come_between();
+    return __real_unlinkat(folder, name, how);
 }
 
 /* ---- cases */
@@ -179,6 +200,38 @@ static void a_reader(const char *folder, uint64_t size, int readings) {
     waitpid(child, NULL, 0);
 }
 
+static zx_file another;
+static zx_code another_code;
+
+static void create_another(void) {
+    another_code = zx_file_open(&another, path, ZX_CREATE_ONLY | ZX_DURABLE, 8192);
+    if (another_code != ZX_DONE) return;
+    set(&another, "n", 5);
+    DONE(zx_file_commit(&another));
+}
+
+/* Two create a file at once, in two ways, and perhaps a log was left beside the name. One is refused, and takes no commit
+   of the other away. */
+static void two_creators(const char *folder, bool has_log, bool saves) {
+    zx_file file = ZX_CLOSED_FILE;
+    make(&file, folder, 8192);
+    zx_file_discard(&file);
+    unlink(path);
+    if (!has_log) unlink(log_path);
+    if (saves) DONE(zx_create(&file.segment, 4096));
+    in_between = create_another;
+    zx_code code = saves ? zx_file_save_as(&file, path, ZX_CREATE_ONLY)
+                         : zx_file_open(&file, path, ZX_OPEN_OR_CREATE | ZX_DURABLE, 4096);
+    IS(in_between == NULL, true);
+    IS((code == ZX_DONE) + (another_code == ZX_DONE), 1);
+    zx_file_discard(&file);
+    zx_file_discard(&another);
+    DONE(zx_file_open(&file, path, ZX_OPEN_ONLY | ZX_DURABLE, 0));
+    if (another_code == ZX_DONE) IS(number(&file, "n"), 5);
+    DONE(zx_file_close(&file));
+    unlink(path);
+}
+
 static void another_file(const char *folder) {
     zx_file file = ZX_CLOSED_FILE, second = ZX_CLOSED_FILE;
     make(&file, folder, 8192);
@@ -292,6 +345,7 @@ int main(int count, char **words) {
     is_slow = true;
     a_reader(words[1], 8192, 2000);
     is_slow = false;
+    for (int way = 0; way < 4; way++) two_creators(words[1], way % 2, way / 2);
     another_file(words[1]);
     a_hard_link(words[1]);
     a_closed_folder(words[1]);

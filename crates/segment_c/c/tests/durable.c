@@ -232,6 +232,23 @@ static void two_creators(const char *folder, bool has_log, bool saves) {
     unlink(path);
 }
 
+/* Another process takes the name of a file whose log is empty. Who has the old file takes no log of the new one away. */
+static void another_durable_file(const char *folder) {
+    zx_file file = ZX_CLOSED_FILE;
+    make(&file, folder, 8192);
+    DONE(zx_file_save(&file));
+    IS(rename(path, other), 0);
+    create_another();
+    DONE(another_code);
+    IS(zx_file_close(&file), ZX_FILE_REPLACED);
+    zx_file_discard(&file);
+    zx_file_discard(&another);
+    DONE(zx_file_open(&file, path, ZX_OPEN_ONLY | ZX_DURABLE, 0));
+    IS(number(&file, "n"), 5);
+    DONE(zx_file_close(&file));
+    unlink(other);
+}
+
 static void another_file(const char *folder) {
     zx_file file = ZX_CLOSED_FILE, second = ZX_CLOSED_FILE;
     make(&file, folder, 8192);
@@ -346,6 +363,7 @@ int main(int count, char **words) {
     a_reader(words[1], 8192, 2000);
     is_slow = false;
     for (int way = 0; way < 4; way++) two_creators(words[1], way % 2, way / 2);
+    another_durable_file(words[1]);
     another_file(words[1]);
     a_hard_link(words[1]);
     a_closed_folder(words[1]);

@@ -345,15 +345,15 @@ static void note_record(const zx_file *file, struct zx_held_file *held, const st
     held->saved = file->segment.changes;
 }
 
-/* Removes the log, which counts no more. The name may lead to the log of another file that took the file's name. */
+/* Removes the log, which counts no more. If another file has taken the name, the log under it is that file's, and stays. */
 static bool remove_log(struct zx_held_file *held) {
     char log[PATH_MAX + 8];
     struct stat own, named;
-    if (!name_log(held->name, log) || fstat(held->log, &own) != 0) return false;
-    bool is_named = fstatat(held->folder, log, &named, AT_SYMLINK_NOFOLLOW) == 0;
+    if (!name_log(held->name, log) || fstat(held->file, &own) != 0) return false;
+    bool is_named = fstatat(held->folder, held->name, &named, AT_SYMLINK_NOFOLLOW) == 0;
     if (!is_named && errno != ENOENT) return false;
-    bool is_own_name = is_named && is_same(&own, &named);
-    if (is_own_name && unlinkat(held->folder, log, 0) != 0 && errno != ENOENT) return false;
+    bool is_taken = is_named && !is_same(&own, &named);
+    if (!is_taken && unlinkat(held->folder, log, 0) != 0 && errno != ENOENT) return false;
     close_listed(&held->log);
     if (held->commits) held->commits->room = 0;
     return true;

@@ -52,7 +52,7 @@ static zx_code open_unheld(zx_file *file, const char *path, uint32_t how) {
         code = look(file, path, &sight);
         if (code != ZX_DONE) return code;
         code = read_both(file, path, &sight, how);
-        // the name led to a file when it was looked at, and is looked at once more
+        // the name led to a file, so another process changed the file or its log
         bool has_changed = code == AGAIN || code == ZX_FILE_IN_USE;
         if (!has_changed && (code != ZX_FILE_LOG_FOREIGN || ++readings == READINGS)) return code;
     }

@@ -61,7 +61,7 @@ static zx_code has_head(zx_file *file, int from, const uint8_t *before, size_t l
 }
 
 /* Reads a log that another process may write. Leaves `log` without bytes if the log has no record. Returns
-   ZX_FILE_IN_USE if the other process emptied the log meanwhile: then the bytes may be those of two logs. */
+   ZX_FILE_IN_USE if the other process emptied the log during the read, so that the bytes may come from two logs. */
 static zx_code read_log(zx_file *file, int from, struct image *log) {
     struct stat found;
     uint8_t before[HEAD];

@@ -110,7 +110,7 @@ fn no_log(error: io::Error) -> Result<Option<File>, LogTrouble> {
     }
 }
 
-/// Opens a log. Returns nothing if it does not exist. What is no file on a disk is no log of a file.
+/// Opens a log. Returns nothing if it does not exist, and `ForeignLog` if a folder, a pipe or a link has its name.
 fn open_log<R: Files<File = File>>(files: &R, log: &str) -> Result<Option<File>, LogTrouble> {
     match fs::symlink_metadata(files, log) {
         Ok(found) if found.is_file() => {}

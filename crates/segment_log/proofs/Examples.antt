@@ -1,8 +1,7 @@
 -- Small files under the name of a log, and what each is.
 use Rattle.std.proofs.Common.{◌≡◌, inl, inr, ℕ, List, [], ◌∷◌, ◌++◌, length, drop, get_or, refl, ap, arith}
-use Rattle.segment_log.specs.Records.{number_of, number_bytes, zeros}
+use Rattle.segment_log.specs.Records.{number_of, number_bytes, shut_gate, zeros}
 use Rattle.segment_log.specs.Tags.{tag_text}
-use Rattle.segment_log.specs.LogKinds.{magic}
 use Rattle.segment_log.specs.LogKindLaws.{IsKind}
 use Rattle.segment_log.specs.declared.log_kinds.LogKind.TheVariants.{Foreign, Empty, Records}
 
@@ -42,12 +41,9 @@ old_gate = (
   λ has. let opened : 0 ≡ 1 = has.is_open in absurd (omega (arith, opened)),
 )
 
--- a new gate: shut, with the name and the version
-abbrev new_gate : List ℕ
-new_gate = zeros 8 ++ magic ++ zeros 4072
-
-new_gate_empty : IsKind Empty new_gate
-unfolding zeros
+-- a new log: a shut gate, with the name and the version
+new_gate_empty : IsKind Empty shut_gate
+unfolding shut_gate zeros
 new_gate_empty = (
   record { gate = omega arith; enough = omega arith; first = omega arith; made = inl refl },
   λ has. let opened : 0 ≡ 1 = has.is_open in absurd (omega (arith, opened)),

@@ -1,14 +1,9 @@
 -- What a file under the name of a log is, by its first bytes and its length.
-use Rattle.std.specs.Prelude.{◌≡◌, ◌≢◌, ◌⊎◌, ◌↔◌, ◌≤◌, ◌<◌, ℕ, ◌+◌, ◌%◌, min, List, [], ◌∷◌, length, take, drop, get_or}
-use Rattle.segment_log.specs.Records.{number_of, zeros}
+use Rattle.std.specs.Prelude.{◌≡◌, ◌≢◌, ◌⊎◌, ◌↔◌, ◌≤◌, ◌<◌, ℕ, ◌+◌, ◌%◌, min, List, length, take, drop, get_or}
+use Rattle.segment_log.specs.Records.{magic, number_of, zeros}
 use Rattle.segment_log.specs.Tags.{tag_of}
 use Rattle.segment_log.specs.declared.log_kinds.LogKind.{LogKind}
 use Rattle.segment_log.specs.declared.log_kinds.LogKind.TheVariants.{Foreign, Empty, Records}
-
--- the name of the format, as the text "zaluxhoni log" and two zeros, and its version
-abbrev pub magic : List ℕ
-magic =
-    122 ∷ 97 ∷ 108 ∷ 117 ∷ 120 ∷ 104 ∷ 111 ∷ 110 ∷ 105 ∷ 32 ∷ 108 ∷ 111 ∷ 103 ∷ 0 ∷ 0 ∷ 1 ∷ []
 
 -- the first gate has the name and the version, at its bytes 8 to 23
 abbrev pub HasMagic : List ℕ → Type 0

@@ -6,16 +6,11 @@ ghost use Rattle.segment_log.specs.LogKinds.{IsOurs, IsUnnamedLog, TellsKind};
 ghost use Rattle.segment_log.specs.LogKindLaws.{KindsTellRecords, NoGateIsForeign};
 ghost use Rattle.segment_log.specs.Records.{zeros};
 
-use crate::records::{GATE_LEN, number_of};
+use crate::records::{GATE_LEN, MAGIC, number_of};
 use crate::tags::tag_of;
 
 /// How many bytes at its beginning tell a log: its first gate, and a record up to the end of its tag.
 pub const HEAD_LEN: usize = 4144;
-
-/// The name of the format and its version, which each gate has at its bytes 8 to 23.
-const MAGIC: [u8; 16] = [
-    b'z', b'a', b'l', b'u', b'x', b'h', b'o', b'n', b'i', b' ', b'l', b'o', b'g', 0, 0, 1,
-];
 
 /// What a file under the name of a log is.
 #[derive(Clone, Copy, Debug, PartialEq, Eq)]

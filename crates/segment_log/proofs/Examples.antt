@@ -1,5 +1,5 @@
 -- Small files under the name of a log, and what each is.
-use Rattle.std.proofs.Common.{◌≡◌, inl, inr, ℕ, List, [], ◌∷◌, ◌++◌, length, drop, get_or, refl, ap, arith}
+use Rattle.std.proofs.Common.{◌≡◌, inl, inr, ℕ, List, [], ◌∷◌, ◌++◌, length, get_or, refl, ap, arith}
 use Rattle.segment_log.specs.Records.{number_of, number_bytes, shut_gate, zeros}
 use Rattle.segment_log.specs.Tags.{tag_text}
 use Rattle.segment_log.specs.LogKindLaws.{IsKind}

@@ -1,5 +1,5 @@
 -- What a file under the name of a log is, by its first bytes and its length.
-use Rattle.std.specs.Prelude.{◌≡◌, ◌≢◌, ◌⊎◌, ◌↔◌, ◌≤◌, ◌<◌, ℕ, ◌+◌, ◌%◌, min, List, length, take, drop, get_or}
+use Rattle.std.specs.Prelude.{◌≡◌, ◌⊎◌, ◌↔◌, ◌≤◌, ℕ, ◌+◌, ◌%◌, min, List, length, take, drop, get_or}
 use Rattle.segment_log.specs.Records.{magic, number_of, zeros}
 use Rattle.segment_log.specs.Tags.{tag_of}
 use Rattle.segment_log.specs.declared.log_kinds.LogKind.{LogKind}

@@ -3,7 +3,8 @@
 ghost use Rattle.std.specs.Prelude.{◌≡◌, ◌≤◌, length, Decides, EachIndex, slice_index};
 ghost use Rattle.segment_log.specs.LogKinds.{BeginsRecord, HasMagic, HasNothingBehind, HasRecord, record_start};
 ghost use Rattle.segment_log.specs.LogKinds.{IsOurs, IsUnnamedLog, TellsKind};
-ghost use Rattle.segment_log.specs.LogKindLaws.{KindsTellRecords, NoGateIsForeign};
+ghost use Rattle.segment_log.specs.LogKindLaws.{CommitKeepsName, CommittedHasRecords, GateWritesKeepName};
+ghost use Rattle.segment_log.specs.LogKindLaws.{GatesBeginLogs, KindsTellRecords, NamedLogsAreOurs, NoGateIsForeign};
 ghost use Rattle.segment_log.specs.Records.{zeros};
 
 use crate::records::{GATE_LEN, MAGIC, number_of};
@@ -123,4 +124,29 @@ pub fn kinds_tell_records()
 /// States that a file that does not begin with a gate, as an empty file, belongs to somebody else.
 pub fn no_gate_is_foreign()
     ensures { NoGateIsForeign }
+{}
+
+/// States that a shut gate is a log without a record, and that an open gate with a whole record is a log with records.
+pub fn gates_begin_logs()
+    ensures { GatesBeginLogs }
+{}
+
+/// States that each log with the name of the format is a log of this crate.
+pub fn named_logs_are_ours()
+    ensures { NamedLogsAreOurs }
+{}
+
+/// States that a log keeps its name after a crash at any moment of a commit at which its first gate is not written.
+pub fn commit_keeps_name()
+    ensures { CommitKeepsName }
+{}
+
+/// States that a log keeps its name while its first gate is written, if each byte is the old one or the new one.
+pub fn gate_writes_keep_name()
+    ensures { GateWritesKeepName }
+{}
+
+/// States that a log with the name of the format has records after a commit.
+pub fn committed_has_records()
+    ensures { CommittedHasRecords }
 {}

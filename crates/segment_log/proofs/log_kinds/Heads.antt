@@ -1,6 +1,6 @@
 -- What stands where in the head of a log.
-use Rattle.std.proofs.Common.{◌≡◌, ◌⊎◌, inl, inr, ℕ, zero, suc, ◌+◌, ◌-◌, ◌<◌, ◌≤◌, List, [], ◌∷◌, length, take, drop}
-use Rattle.std.proofs.Common.{get_or, refl, sym, ◌∙◌, ap, arith, length-drop, Bool, true, false, Decides, min}
+use Rattle.std.proofs.Common.{◌≡◌, ℕ, zero, suc, ◌-◌, ◌<◌, ◌≤◌, List, [], ◌∷◌, length, take, drop}
+use Rattle.std.proofs.Common.{get_or, refl, ◌∙◌, ap, arith, length-drop, Bool, Decides, min}
 use Rattle.std.proofs.lemmas.List.{take_min}
 use Rattle.std.proofs.Math.ListN.{drop_of_length-le}
 use Rattle.segment_log.specs.Records.{zeros}

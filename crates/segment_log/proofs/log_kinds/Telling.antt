@@ -1,14 +1,13 @@
 -- What the kinds of logs say.
-use Rattle.std.proofs.Common.{◌≡◌, ◌≢◌, ◌⊎◌, inl, inr, ℕ, ◌+◌, ◌<◌, ◌≤◌, List, [], length, take, drop, get_or}
+use Rattle.std.proofs.Common.{◌≡◌, ◌≢◌, inl, inr, ℕ, ◌+◌, ◌<◌, ◌≤◌, List, [], length, take, drop, get_or}
 use Rattle.std.proofs.Common.{refl, sym, ◌∙◌, ap, arith, length-drop, cond, Option, Some, None}
 use Rattle.std.proofs.lemmas.Bool.{cases_eq, lt-ltb, le-ltb}
 use Rattle.std.proofs.lemmas.Bool.Decides.{leb_tells}
 use Rattle.std.proofs.lemmas.List.{drop-take, take-take, get_or-take}
 use Rattle.byteorder.specs.Numbers.{little_from-take}
 use Rattle.segment_log.specs.Records.{number_of, next_behind, next_at, recovered}
-use Rattle.segment_log.specs.LogKinds.{HasMagic, HasRecord, IsOurs}
-use Rattle.segment_log.specs.LogKindLaws.{IsKind, TellsRecords, KindsTellRecords, NoGateIsForeign}
-use Rattle.segment_log.specs.declared.log_kinds.LogKind.TheVariants.{Foreign, Empty, Records}
+use Rattle.segment_log.specs.LogKinds.{HasRecord}
+use Rattle.segment_log.specs.LogKindLaws.{KindsTellRecords, NoGateIsForeign}
 use Rattle.segment_log.proofs.records.Reading.{next_shut, next_open, recovered_none, recovered_some}
 
 -- the length of the first payload stands in the head
@@ -25,7 +24,8 @@ pub gate_in_head : (log : List ℕ) → take 4095 (drop 1 (take 4144 log)) ≡ t
 gate_in_head log =
     ap (λ (l : List ℕ). take 4095 l) (drop-take 1 4143 log) ∙ take-take 4095 4143 (drop 1 log) (omega arith)
 
-none_behind : (text : List ℕ) → length text < 8 + number_of text → next_behind text ≡ None
+-- a text without room for its payload
+pub none_behind : (text : List ℕ) → length text < 8 + number_of text → next_behind text ≡ None
 none_behind text short =
     ap (λ b. cond b None (Some (take (number_of text) (drop 8 text), drop (number_of text) (drop 8 text))))
     (lt-ltb _ _ short)

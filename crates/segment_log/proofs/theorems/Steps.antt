@@ -1,5 +1,5 @@
 -- What a crash may leave of both files after each write of a commit.
-use Rattle.std.proofs.Common.{◌≡◌, inl, ℕ, suc, ◌+◌, ◌^◌, ◌<◌, List, [], ◌∷◌, ◌++◌, length, get_or, sym, ◌∙◌, ap, subst}
+use Rattle.std.proofs.Common.{◌≡◌, inl, ℕ, ◌+◌, ◌^◌, ◌<◌, List, [], ◌∷◌, ◌++◌, length, get_or, sym, ◌∙◌, ap, subst}
 use Rattle.segment_log.specs.Crashes.{LoggedFile, WritesAt, TornWrite, WritesLog, Follows, TornFrom, LogIs, Only}
 use Rattle.segment_log.specs.Records.{recovered, record_body, open_gate, shut_gate, EndsShut, KeepsOrAddsRecord}
 use Rattle.segment_log.proofs.theorems.Crash.{behind_keeps, gate_crash, added, ends_now}

@@ -1,7 +1,8 @@
 -- What holds of a commit, of a repair and of a checkpoint, at each moment.
 use Rattle.std.specs.Prelude.{◌≡◌, ◌<◌, ◌^◌, ℕ, ◌+◌, Bool, true, false, List, [], ◌∷◌, ◌++◌, length, take}
 use Rattle.segment_log.specs.Crashes.{LoggedFile}
-use Rattle.segment_log.specs.Records.{recovered, body_at, zeros, EndsShut, IsAjar, IsEndOfLog, KeepsOrAddsRecord}
+use Rattle.segment_log.specs.Records.{recovered, record_body, open_gate, shut_gate, EndsShut, IsAjar, IsEndOfLog}
+use Rattle.segment_log.specs.Records.{KeepsOrAddsRecord}
 use Rattle.segment_log.specs.Edits.{stands_for}
 use Rattle.segment_log.specs.Events.{LogEvent, Wrote, Synced, Placed, seen_in_the_end, leaves_after}
 
@@ -13,24 +14,16 @@ pub data CommitOutcome : Type 0 where
   Unsure : CommitOutcome
   Committed : CommitOutcome
 
--- a gate that marks the record behind it
-abbrev pub open_gate : List ℕ
-open_gate = 1 ∷ zeros 4095
-
--- what a commit writes behind the gate
-abbrev pub body : List ℕ → List ℕ
-body payload = body_at 4096 payload
-
 -- the calls of a commit: the body and a sync, then the gate and a sync, up to the one that fails
 abbrev pub commit_events : ℕ → List ℕ → CommitOutcome → List LogEvent
-commit_events end payload Unwritten = Wrote (end + 4096) (body payload) false ∷ []
-commit_events end payload Unsynced = Wrote (end + 4096) (body payload) true ∷ Synced false ∷ []
+commit_events end payload Unwritten = Wrote (end + 4096) (record_body payload) false ∷ []
+commit_events end payload Unsynced = Wrote (end + 4096) (record_body payload) true ∷ Synced false ∷ []
 commit_events end payload Unmarked =
-    Wrote (end + 4096) (body payload) true ∷ Synced true ∷ Wrote end open_gate false ∷ []
+    Wrote (end + 4096) (record_body payload) true ∷ Synced true ∷ Wrote end open_gate false ∷ []
 commit_events end payload Unsure =
-    Wrote (end + 4096) (body payload) true ∷ Synced true ∷ Wrote end open_gate true ∷ Synced false ∷ []
+    Wrote (end + 4096) (record_body payload) true ∷ Synced true ∷ Wrote end open_gate true ∷ Synced false ∷ []
 commit_events end payload Committed =
-    Wrote (end + 4096) (body payload) true ∷ Synced true ∷ Wrote end open_gate true ∷ Synced true ∷ []
+    Wrote (end + 4096) (record_body payload) true ∷ Synced true ∷ Wrote end open_gate true ∷ Synced true ∷ []
 
 -- At each moment of a commit, however it ends, a crash leaves the records from before it, with the new one or without.
 abbrev pub CommitKeepsOne : Type 0
@@ -60,7 +53,7 @@ through_events at bytes true synced = Wrote at bytes true ∷ Synced synced ∷ 
 
 -- the shut gate is written so
 abbrev pub shut_events : ℕ → Bool → Bool → List LogEvent
-shut_events at written synced = through_events at (zeros 4096) written synced
+shut_events at written synced = through_events at shut_gate written synced
 
 -- At each moment of a repair of the log's end, a crash leaves the image.
 abbrev pub RepairKeepsTheImage : Type 0

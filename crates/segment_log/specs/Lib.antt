@@ -3,6 +3,8 @@ pub mod Records
 pub mod Edits
 pub mod Fingerprints
 pub mod Tags
+pub mod LogKinds
+pub mod LogKindLaws
 pub mod Events
 pub mod Laws
 pub mod Openings

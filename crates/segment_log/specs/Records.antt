@@ -1,6 +1,6 @@
 -- What a log stands for: the payloads of its marked records, up to the first that is not marked or not whole. A record
--- is a gate, a block of bytes whose first is 1 if the record is marked and whose others count for nothing, then the
--- length of the payload in 8 bytes, and the payload.
+-- is a gate, a block of bytes whose first is 1 if the record is marked and whose others count for nothing here, then
+-- the length of the payload in 8 bytes, and the payload.
 use Rattle.std.specs.Prelude.{◌≡◌, ◌≢◌, ◌⊎◌, ◌<◌, ◌≤◌, ℕ, zero, suc, ◌+◌, ◌-◌, List, [], ◌∷◌, ◌++◌, length, take, drop}
 use Rattle.std.specs.Prelude.{get_or, replicate, ◌==◌, nat_lt, if◌then◌else◌, Option, Some, None}
 use Rattle.byteorder.specs.Endian.{little_number, little_bytes}
@@ -46,9 +46,25 @@ recovered_at gate log = recovered_by gate (length log) log
 abbrev pub recovered : List ℕ → List (List ℕ)
 recovered log = recovered_at 4096 log
 
+-- the name of the format, as the text "zaluxhoni log" and two zeros, and its version
+abbrev pub magic : List ℕ
+magic = 122 ∷ 97 ∷ 108 ∷ 117 ∷ 120 ∷ 104 ∷ 111 ∷ 110 ∷ 105 ∷ 32 ∷ 108 ∷ 111 ∷ 103 ∷ 0 ∷ 0 ∷ 1 ∷ []
+
+-- a gate as it is written: its first byte, and at its bytes 8 to 23 the name of the format and its version
+abbrev pub gate_text : ℕ → List ℕ
+gate_text first = first ∷ zeros 7 ++ magic ++ zeros 4072
+
+-- the gate that marks the record behind it
+unfoldable pub open_gate : List ℕ
+open_gate = gate_text 1
+
+-- the gate that ends a log
+unfoldable pub shut_gate : List ℕ
+shut_gate = gate_text 0
+
 -- what is written behind a gate: the length, the payload, and the next gate, shut
-abbrev pub body_at : ℕ → List ℕ → List ℕ
-body_at gate payload = number_bytes (length payload) ++ payload ++ zeros gate
+abbrev pub record_body : List ℕ → List ℕ
+record_body payload = number_bytes (length payload) ++ payload ++ shut_gate
 
 -- whatever stands behind these bytes, they stand for these payloads and nothing in front of it
 abbrev pub IsLogPrefix : ℕ → List ℕ → List (List ℕ) → Type 0

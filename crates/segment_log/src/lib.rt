@@ -11,6 +11,7 @@ mod committing;
 mod edits;
 mod fingerprints;
 mod log_disk;
+mod log_kinds;
 mod payloads;
 mod records;
 mod recovery;
@@ -22,6 +23,10 @@ pub use committed_image::CommittedImage;
 pub use committing::{CommitError, checkpoint, commit, shut};
 pub use fingerprints::{PAGE_LEN, fingerprint, fingerprint_of_a_change, page_mark, with_page};
 pub use log_disk::{LogDisk, LogFault};
+pub use log_kinds::{
+    HEAD_LEN, LogKind, commit_keeps_name, committed_has_records, gate_writes_keep_name,
+    gates_begin_logs, kinds_tell_records, log_kind, named_logs_are_ours, no_gate_is_foreign,
+};
 pub use payloads::{begin_payload, changes, edit_head, fill, push_edit};
 pub use records::{GATE_LEN, MAX_LOG_LEN, next_record, open_gate, record_body, shut_gate};
 pub use recovery::{RecoverError, RecoveredImage, RecoveredWithin, recover, recover_within};

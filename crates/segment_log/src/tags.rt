@@ -7,7 +7,7 @@ use crate::edits::next_edit;
 use crate::records::{next_record, number_of};
 
 /// Returns the tag of a payload, or nothing.
-fn tag_of(payload: &[u8]) -> &[u8]
+pub(crate) fn tag_of(payload: &[u8]) -> &[u8]
     ensures { result.now ≡ tag_of payload.now }
 {
     if payload.len() < 8 {

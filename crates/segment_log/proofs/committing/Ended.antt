@@ -4,9 +4,9 @@ use Rattle.std.proofs.Common.{false, List, [], ◌∷◌}
 use Rattle.std.proofs.Common.{length, Ok, Err, refl, subst}
 use Rattle.segment_log.specs.Crashes.{LoggedFile}
 use Rattle.segment_log.specs.Events.{LogEvent, Placed, Synced, Wrote, all_done, seen_in_the_end}
-use Rattle.segment_log.specs.Laws.{CommitOutcome, Unwritten, Unsynced, Unmarked, Unsure, Committed, body, open_gate}
+use Rattle.segment_log.specs.Laws.{CommitOutcome, Unwritten, Unsynced, Unmarked, Unsure, Committed}
 use Rattle.segment_log.specs.Laws.{commit_events, through_events, shut_events, checkpoint_events}
-use Rattle.segment_log.specs.Records.{zeros}
+use Rattle.segment_log.specs.Records.{open_gate, record_body, shut_gate}
 use Rattle.segment_log.specs.Committing.{AsksFor, CommitsRecord, ShutsGate, MakesCheckpoint, CrashLeaves}
 use Rattle.segment_log.specs.declared.committing.CommitError.{CommitError}
 use Rattle.segment_log.specs.declared.committing.CommitError.TheVariants.{OutOfMemory, TooLong, WriteFault}
@@ -100,30 +100,33 @@ module _ {D : Type 0} (step : D → LogEvent → D → Type 0) (old new : D) (en
 
   -- a commit whose body was not written through
   pub body_failed : (written synced : Bool) → false ≡ (written && synced)
-      → AsksFor step old (through_events (end + 4096) (body payload) written synced) new
+      → AsksFor step old (through_events (end + 4096) (record_body payload) written synced) new
       → CommitsRecord step old new end payload (Err WriteFault)
   body_failed false synced unlike asked = failed Unwritten refl asked
   body_failed true false unlike asked = failed Unsynced refl asked
   body_failed true true unlike asked = absurd (cc unlike)
 
-  module _ (mid : D) (first : AsksFor step old (through_events (end + 4096) (body payload) true true) mid) where
+  module _ (mid : D) (first : AsksFor step old (through_events (end + 4096) (record_body payload) true true) mid) where
     -- a commit whose gate was not opened for good
     pub gate_failed : (written synced : Bool) → false ≡ (written && synced)
         → AsksFor step mid (through_events end open_gate written synced) new
         → CommitsRecord step old new end payload (Err WriteFault)
     gate_failed false synced unlike asked =
         failed Unmarked refl
-        (behind step old mid new (end + 4096) (body payload) (through_events end open_gate false synced) first asked)
+        (behind step old mid new (end + 4096) (record_body payload)
+        (through_events end open_gate false synced) first asked)
     gate_failed true false unlike asked =
         failed Unsure refl
-        (behind step old mid new (end + 4096) (body payload) (through_events end open_gate true false) first asked)
+        (behind step old mid new (end + 4096) (record_body payload)
+        (through_events end open_gate true false) first asked)
     gate_failed true true unlike asked = absurd (cc unlike)
 
     -- a commit whose gate was opened
     pub gate_opened : AsksFor step mid (through_events end open_gate true true) new
         → CommitsRecord step old new end payload (Ok (end + 4096 + 8 + length payload))
     gate_opened asked =
-        done (behind step old mid new (end + 4096) (body payload) (through_events end open_gate true true) first asked)
+        done (behind step old mid new (end + 4096) (record_body payload)
+        (through_events end open_gate true true) first asked)
 
 module _ {D : Type 0} (step : D → LogEvent → D → Type 0) (old new : D) (end : ℕ) where
   -- an opening that asked for nothing
@@ -139,18 +142,18 @@ module _ {D : Type 0} (step : D → LogEvent → D → Type 0) (old new : D) (en
 
   -- an opening that failed while it shut the gate
   pub half_shut : (written synced : Bool) → false ≡ (written && synced)
-      → AsksFor step old (through_events end (zeros 4096) written synced) new
+      → AsksFor step old (through_events end shut_gate written synced) new
       → ShutsGate step old new end (Err WriteFault)
   half_shut written synced unlike asked = record {
     events = shut_events end written synced;
     asked = asked;
     crash = λ files ends ajar own k c left. repair_finds_the_same files end written synced ends ajar own k c left;
     on_ok = tt;
-    cause = halted end (zeros 4096) written synced unlike;
+    cause = halted end shut_gate written synced unlike;
   }
 
   -- an opening that shut the gate
-  pub shut_now : AsksFor step old (through_events end (zeros 4096) true true) new → ShutsGate step old new end (Ok tt)
+  pub shut_now : AsksFor step old (through_events end shut_gate true true) new → ShutsGate step old new end (Ok tt)
   shut_now asked = record {
     events = shut_events end true true;
     asked = asked;
@@ -185,7 +188,7 @@ module _ {D : Type 0} (step : D → LogEvent → D → Type 0) (old new : D) (im
   module _ (mid : D) (placed : step old (Placed image true) mid) where
     -- a checkpoint whose log was not emptied for good
     pub not_emptied : (written synced : Bool) → false ≡ (written && synced)
-        → AsksFor step mid (through_events 0 (zeros 4096) written synced) new
+        → AsksFor step mid (through_events 0 shut_gate written synced) new
         → MakesCheckpoint step old new image (Err WriteFault)
     not_emptied written synced unlike asked = record {
       events = checkpoint_events image true written synced;
@@ -193,11 +196,11 @@ module _ {D : Type 0} (step : D → LogEvent → D → Type 0) (old new : D) (im
       crash = λ files end ready some k c left.
           checkpoint_finds_the_same files end image true written synced ready some k c left;
       on_ok = tt;
-      cause = halted 0 (zeros 4096) written synced unlike;
+      cause = halted 0 shut_gate written synced unlike;
     }
 
     -- a checkpoint that is done
-    pub emptied_now : AsksFor step mid (through_events 0 (zeros 4096) true true) new
+    pub emptied_now : AsksFor step mid (through_events 0 shut_gate true true) new
         → MakesCheckpoint step old new image (Ok tt)
     emptied_now asked = record {
       events = checkpoint_events image true true true;

@@ -1,10 +1,11 @@
 -- What stands where after a write.
-use Rattle.std.proofs.Common.{◌≡◌, ℕ, zero, suc, ◌+◌, ◌<◌, ◌≤◌, List, ◌++◌, length, take, drop, get_or, refl, sym, ◌∙◌}
+use Rattle.std.proofs.Common.{◌≡◌, ℕ, ◌+◌, ◌<◌, ◌≤◌, List, [], ◌∷◌, ◌++◌, length, take, drop, get_or}
+use Rattle.std.proofs.Common.{refl, sym, ◌∙◌}
 use Rattle.std.proofs.Common.{ap, arith, append_assoc, length-append}
 use Rattle.std.proofs.lemmas.List.{take_at, drop_at, length-take-le, length-replicate, take-take, get_or-take}
 use Rattle.std.proofs.lemmas.List.{get_or-drop, replicate-append-replicate}
 use Rattle.segment_log.specs.Crashes.{WritesAt}
-use Rattle.segment_log.specs.Records.{zeros}
+use Rattle.segment_log.specs.Records.{open_gate, shut_gate, zeros}
 
 module _ (old : List ℕ) (at : ℕ) (bytes new : List ℕ) (room : at ≤ length old) (holds : WritesAt old at bytes new) where
   prefix_len : length (take at old) ≡ at
@@ -65,8 +66,29 @@ pub zeros_split : (n m : ℕ) → zeros (n + m) ≡ zeros n ++ zeros m
 unfolding zeros
 zeros_split n m = sym (replicate-append-replicate n m 0)
 
--- the first of some zeros is 0
-pub zero_first : (n : ℕ) (rest : List ℕ) → 0 < n → get_or (zeros n ++ rest) 0 0 ≡ 0
-unfolding zeros
-zero_first zero rest some = absurd (omega arith)
-zero_first (suc n) rest some = refl
+-- ---- gates as they are written
+
+-- how many bytes a shut gate has
+pub length-shut : length shut_gate ≡ 4096
+unfolding shut_gate zeros
+length-shut = refl
+
+-- how many bytes an open gate has
+pub length-open : length open_gate ≡ 4096
+unfolding open_gate zeros
+length-open = refl
+
+-- the first byte of a shut gate
+pub shut_first : get_or shut_gate 0 0 ≡ 0
+unfolding shut_gate
+shut_first = refl
+
+-- the first byte of an open gate
+pub open_first : get_or open_gate 0 0 ≡ 1
+unfolding open_gate
+open_first = refl
+
+-- the first byte of bytes, and of others behind them
+pub first_of : (xs ys : List ℕ) → 0 < length xs → get_or (xs ++ ys) 0 0 ≡ get_or xs 0 0
+first_of [] ys some = absurd (omega arith)
+first_of (x ∷ xs) ys some = refl

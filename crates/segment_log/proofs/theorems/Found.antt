@@ -2,7 +2,7 @@
 use Rattle.std.proofs.Common.{◌≡◌, inl, inr, ℕ, ◌-◌, ◌<◌, Bool, true, false, List, [], length}
 use Rattle.std.proofs.Common.{refl, sym, ◌∙◌, ap, arith}
 use Rattle.segment_log.specs.Crashes.{LoggedFile, TornFrom, ReplacedFrom}
-use Rattle.segment_log.specs.Records.{recovered, zeros, IsAjar, IsEndOfLog}
+use Rattle.segment_log.specs.Records.{recovered, shut_gate, IsAjar, IsEndOfLog}
 use Rattle.segment_log.specs.Edits.{stands_for, SameRecords, KeepsOrPlaces}
 use Rattle.segment_log.specs.Events.{seen_in_the_end}
 use Rattle.segment_log.specs.Laws.{Committed, commit_events, shut_events, checkpoint_events}
@@ -11,7 +11,7 @@ use Rattle.segment_log.specs.Openings.{ShutIsReady, RepairFindsTheSame, Repaired
 use Rattle.segment_log.specs.Openings.{CheckpointedIsReady}
 use Rattle.segment_log.specs.Tags.{AreTogether, KeepsImage}
 use Rattle.segment_log.proofs.edits.Images.{one_more_image}
-use Rattle.segment_log.proofs.records.Pieces.{length-zeros}
+use Rattle.segment_log.proofs.records.Pieces.{length-shut, shut_first}
 use Rattle.segment_log.proofs.tags.Named.{named_same, named_more, mid_commit, mid_checkpoint, empty_named}
 use Rattle.segment_log.proofs.theorems.Always.{Always, at_each}
 use Rattle.segment_log.proofs.theorems.Ends.{same_image, repair_moment, mid_image, replaced_moment, emptied_moment}
@@ -67,9 +67,9 @@ module _ (files : LoggedFile) (end : ℕ) (ends : IsEndOfLog 4096 files.log end)
     log = ap (λ (f : LoggedFile). recovered f.log) is;
   })
 
-  torn_gate : IsAjar 4096 files.log end → (d : LoggedFile) → TornFrom end (length (zeros 4096)) start d → Keeps d
+  torn_gate : IsAjar 4096 files.log end → (d : LoggedFile) → TornFrom end (length shut_gate) start d → Keeps d
   torn_gate ajar d left =
-      same d (repair_moment files end ends ajar start (λ e is. is) (length (zeros 4096)) (length-zeros 4096) d left)
+      same d (repair_moment files end ends ajar start (λ e is. is) (length shut_gate) (length-shut) d left)
 
   all_shut : IsAjar 4096 files.log end → (written synced : Bool)
       → Always Keeps files start (shut_events end written synced)
@@ -81,12 +81,15 @@ module _ (files : LoggedFile) (end : ℕ) (ends : IsEndOfLog 4096 files.log end)
   now = seen_in_the_end files (shut_events end true true)
 
   has_same : SameRecords files now
-  has_same = record { base = refl; log = repaired_same 4095 files.log end ends now.log refl }
+  has_same = record {
+    base = refl;
+    log = repaired_same 4095 files.log end ends shut_gate length-shut shut_first now.log refl;
+  }
 
   done : EndsReady files (shut_events end true true) end (stands_for files)
   done = record {
     ready = record {
-      ends = repaired 4095 files.log end ends now.log refl;
+      ends = repaired 4095 files.log end ends shut_gate length-shut shut_first now.log refl;
       own = named_same files now has_same own;
       stands = same_image files now has_same;
     };
@@ -129,11 +132,11 @@ module _ (files : LoggedFile) (end : ℕ) (image : List ℕ) (ready : IsReady fi
   once_placed d left =
       keeps d (replaced_moment files image (sym ready.stands) before (λ e is. is) d left)
 
-  once_shut : (d : LoggedFile) → TornFrom 0 (length (zeros 4096)) placed_may d → KeepsIt d
+  once_shut : (d : LoggedFile) → TornFrom 0 (length shut_gate) placed_may d → KeepsIt d
   once_shut d left =
       keeps d
       (emptied_moment files image (sym ready.stands) before (λ e is. is) placed_may (λ e from. from.1)
-      (λ e from. (from.0.0, from.0.1, from.0.2)) (ready.ends.marked some) (length (zeros 4096)) (length-zeros 4096)
+      (λ e from. (from.0.0, from.0.1, from.0.2)) (ready.ends.marked some) (length shut_gate) (length-shut)
       d left)
 
   all_placed : (placed written synced : Bool)
@@ -148,12 +151,12 @@ module _ (files : LoggedFile) (end : ℕ) (image : List ℕ) (ready : IsReady fi
   checked = seen_in_the_end files (checkpoint_events image true true true)
 
   none_left : recovered checked.log ≡ []
-  none_left = emptied 4095 files.log checked.log refl
+  none_left = emptied 4095 files.log shut_gate length-shut shut_first checked.log refl
 
   is_done : EndsReady files (checkpoint_events image true true true) 0 image
   is_done = record {
     ready = record {
-      ends = emptied_ends 4095 files.log checked.log refl;
+      ends = emptied_ends 4095 files.log shut_gate length-shut shut_first checked.log refl;
       own = empty_named checked none_left;
       stands = stands_now checked (inr (refl, inr none_left));
     };

@@ -1,14 +1,15 @@
 -- The laws of a commit, of a repair and of a checkpoint, call by call.
 use Rattle.std.proofs.Common.{◌≡◌, ◌⊎◌, inl, ℕ, ◌+◌, ◌-◌, ◌^◌, ◌<◌, Bool, true, false, List, length, get_or, refl, ap}
 use Rattle.segment_log.specs.Crashes.{LoggedFile, TornFrom, ReplacedFrom}
-use Rattle.segment_log.specs.Records.{recovered, zeros, EndsShut, IsEndOfLog, KeepsOrAddsRecord}
+use Rattle.segment_log.specs.Records.{recovered, record_body, open_gate, shut_gate, EndsShut, IsEndOfLog}
+use Rattle.segment_log.specs.Records.{KeepsOrAddsRecord}
 use Rattle.segment_log.specs.Edits.{stands_for}
 use Rattle.segment_log.specs.Events.{Wrote, seen_after, seen_in_the_end, leaves_after}
-use Rattle.segment_log.specs.Laws.{CommitOutcome, Unwritten, Unsynced, Unmarked, Unsure, Committed, open_gate, body}
+use Rattle.segment_log.specs.Laws.{CommitOutcome, Unwritten, Unsynced, Unmarked, Unsure, Committed}
 use Rattle.segment_log.specs.Laws.{commit_events, CommitKeepsOne, AddsRecord, CommittedLasts, shut_events}
 use Rattle.segment_log.specs.Laws.{RepairKeepsTheImage, checkpoint_events, CheckpointKeepsTheImage}
 use Rattle.segment_log.proofs.theorems.Always.{Always, at_each}
-use Rattle.segment_log.proofs.records.Pieces.{length-zeros}
+use Rattle.segment_log.proofs.records.Pieces.{length-shut}
 use Rattle.segment_log.proofs.theorems.Steps.{stage_moment, gate_moment, one_added, ends_there, settled_files}
 use Rattle.segment_log.proofs.theorems.Ends.{same_image, repair_moment, mid_image, replaced_moment, emptied_moment}
 
@@ -21,10 +22,10 @@ module _ (files : LoggedFile) (end : ℕ) (payload : List ℕ) (ends : EndsShut 
   first_may = λ c. c ≡ files
 
   abbrev staged : LoggedFile
-  staged = seen_after files (Wrote (end + 4096) (body payload) true)
+  staged = seen_after files (Wrote (end + 4096) (record_body payload) true)
 
   abbrev written_may : LoggedFile → Type 0
-  written_may = TornFrom (end + 4096) (length (body payload)) first_may
+  written_may = TornFrom (end + 4096) (length (record_body payload)) first_may
 
   abbrev mid_may : LoggedFile → Type 0
   mid_may = λ c. written_may c × (c.log ≡ staged.log)
@@ -34,12 +35,12 @@ module _ (files : LoggedFile) (end : ℕ) (payload : List ℕ) (ends : EndsShut 
       record { base = ap (λ (f : LoggedFile). f.base) is; log = inl (ap (λ (f : LoggedFile). recovered f.log) is) }
 
   once_written : (c : LoggedFile) → written_may c → P c
-  once_written c left = stage_moment files end ends payload first_may (λ d is. is) (length (body payload)) c left
+  once_written c left = stage_moment files end ends payload first_may (λ d is. is) (length (record_body payload)) c left
 
   once_marked : (c : LoggedFile) → TornFrom end (length open_gate) mid_may c → P c
   once_marked c left =
       gate_moment files end ends payload first_may (λ d is. is) small staged.log
-      (body payload) open_gate staged.log refl refl mid_may (length (body payload))
+      (record_body payload) open_gate staged.log refl refl mid_may (length (record_body payload))
       (λ d left. (left.0.0, left.0.1, left.0.2)) (λ d left. left.1) refl c left
 
   all_of : (how : CommitOutcome) → Always P files first_may (commit_events end payload how)
@@ -59,15 +60,15 @@ module _ (files : LoggedFile) (end : ℕ) (payload : List ℕ) (ends : EndsShut 
     base = refl;
     added =
         one_added files end ends payload first_may (λ d is. is) small staged.log
-        (body payload) open_gate done.log refl refl mid_may (length (body payload))
+        (record_body payload) open_gate done.log refl refl mid_may (length (record_body payload))
         (λ d left. (left.0.0, left.0.1, left.0.2)) (λ d left. left.1) refl refl;
     ends =
         ends_there files end ends payload first_may (λ d is. is) small staged.log
-        (body payload) open_gate done.log refl refl mid_may (length (body payload))
+        (record_body payload) open_gate done.log refl refl mid_may (length (record_body payload))
         (λ d left. (left.0.0, left.0.1, left.0.2)) (λ d left. left.1) refl refl;
     lasts =
         λ c left. settled_files files end ends payload first_may (λ d is. is) small staged.log
-        (body payload) open_gate done.log refl refl mid_may (length (body payload))
+        (record_body payload) open_gate done.log refl refl mid_may (length (record_body payload))
         (λ d left. (left.0.0, left.0.1, left.0.2)) (λ d left. left.1) refl done
         (λ d. TornFrom end (length open_gate) mid_may d × (d.log ≡ done.log)) (length open_gate) refl
         (λ d left. (left.0.0, left.0.1, left.0.2)) (λ d left. left.1) c left;
@@ -94,10 +95,10 @@ module _ (files : LoggedFile) (end : ℕ) (ends : IsEndOfLog 4096 files.log end)
   at_start : (d : LoggedFile) → start d → Same d
   at_start d is = ap stands_for is
 
-  torn_gate : (d : LoggedFile) → TornFrom end (length (zeros 4096)) start d → Same d
+  torn_gate : (d : LoggedFile) → TornFrom end (length shut_gate) start d → Same d
   torn_gate d left =
       same_image files d
-      (repair_moment files end ends ajar start (λ e is. is) (length (zeros 4096)) (length-zeros 4096) d left)
+      (repair_moment files end ends ajar start (λ e is. is) (length shut_gate) (length-shut) d left)
 
   all_shut : (written synced : Bool) → Always Same files start (shut_events end written synced)
   all_shut true true = (at_start, (torn_gate, λ d left. torn_gate d left.0))
@@ -130,11 +131,11 @@ module _ (files : LoggedFile) (end : ℕ) (ends : EndsShut 4096 files.log end) (
   once_replaced d left =
       mid_image files image refl before (λ e is. is) d (replaced_moment files image refl before (λ e is. is) d left)
 
-  once_shut : (d : LoggedFile) → TornFrom 0 (length (zeros 4096)) replaced_may d → Alike d
+  once_shut : (d : LoggedFile) → TornFrom 0 (length shut_gate) replaced_may d → Alike d
   once_shut d left =
       mid_image files image refl before (λ e is. is) d
       (emptied_moment files image refl before (λ e is. is) replaced_may (λ e from. from.1)
-      (λ e from. (from.0.0, from.0.1, from.0.2)) (ends.marked some) (length (zeros 4096)) (length-zeros 4096) d left)
+      (λ e from. (from.0.0, from.0.1, from.0.2)) (ends.marked some) (length shut_gate) (length-shut) d left)
 
   all_replaced : (placed written synced : Bool)
       → Always Alike files before (checkpoint_events image placed written synced)

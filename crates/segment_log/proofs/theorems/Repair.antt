@@ -4,10 +4,9 @@ use Rattle.std.proofs.Common.{get_or, sym, ◌∙◌, ap, arith, length-drop, ta
 use Rattle.std.proofs.lemmas.List.{append-nil, drop-drop}
 use Rattle.std.proofs.lemmas.Bool.{lt-ltb}
 use Rattle.segment_log.specs.Crashes.{WritesAt, TornWrite}
-use Rattle.segment_log.specs.Records.{zeros, number_of, next_behind, recovered_at, IsAjar, IsEndOfLog, EndsShut}
+use Rattle.segment_log.specs.Records.{number_of, next_behind, recovered_at, IsAjar, IsEndOfLog, EndsShut}
 use Rattle.segment_log.proofs.records.Reading.{next_or_none, next_open, recovered_none, recovered_shut, recovered_same}
-use Rattle.segment_log.proofs.records.Pieces.{held_before, held_at, held_len, get_same, get_dropped, length-zeros}
-use Rattle.segment_log.proofs.records.Pieces.{zero_first}
+use Rattle.segment_log.proofs.records.Pieces.{held_before, held_at, held_len, get_same, get_dropped, first_of}
 
 none_behind : (text : List ℕ) → length text < 8 → next_behind text ≡ None
 none_behind text short =
@@ -43,18 +42,19 @@ module _ (gap : ℕ) (log : List ℕ) (end : ℕ) (ends : IsEndOfLog (suc gap) l
   shut_already long shut =
       record { prefix = ends.prefix; room = omega (arith, ends.within); shut = shut; marked = ends.marked }
 
-  module _ (new : List ℕ) (holds : WritesAt log end (zeros (suc gap)) new) where
-    at_end : drop end new ≡ zeros (suc gap) ++ drop (end + length (zeros (suc gap))) log
-    at_end = held_at log end (zeros (suc gap)) new ends.within holds
+  module _ (gate : List ℕ) (gate_len : length gate ≡ suc gap) (gate_first : get_or gate 0 0 ≡ 0) (new : List ℕ)
+      (holds : WritesAt log end gate new) where
+    at_end : drop end new ≡ gate ++ drop (end + length gate) log
+    at_end = held_at log end gate new ends.within holds
 
     gate_is : get_or new end 0 ≡ 0
     gate_is = sym (get_dropped end new) ∙ ap (λ (l : List ℕ). get_or l 0 0) at_end
-        ∙ zero_first (suc gap) _ (omega arith)
+        ∙ (first_of gate _ (omega (arith, gate_len)) ∙ gate_first)
 
     -- a gate that is shut leaves the records
     pub repaired_same : recovered_at (suc gap) new ≡ recovered_at (suc gap) log
     repaired_same =
-        same_records new (held_before log end (zeros (suc gap)) new ends.within holds)
+        same_records new (held_before log end gate new ends.within holds)
         (recovered_shut (suc gap) (drop end new) (λ is. absurd (omega (arith, is, get_dropped end new, gate_is))))
 
     -- a log whose gate was shut ends there
@@ -62,11 +62,11 @@ module _ (gap : ℕ) (log : List ℕ) (end : ℕ) (ends : IsEndOfLog (suc gap) l
     repaired = record {
       prefix =
           λ tail. ap (λ (l : List ℕ). recovered_at (suc gap) (l ++ tail))
-          (held_before log end (zeros (suc gap)) new ends.within holds) ∙ ends.prefix tail
+          (held_before log end gate new ends.within holds) ∙ ends.prefix tail
           ∙ ap (λ (ps : List (List ℕ)). ps ++ recovered_at (suc gap) tail) (sym repaired_same);
-      room = omega (arith, held_len log end (zeros (suc gap)) new ends.within holds, length-zeros (suc gap));
+      room = omega (arith, held_len log end gate new ends.within holds, gate_len);
       shut = λ is. absurd (omega (arith, is, gate_is));
-      marked = λ some. get_same 0 end new log some (held_before log end (zeros (suc gap)) new ends.within holds)
+      marked = λ some. get_same 0 end new log some (held_before log end gate new ends.within holds)
           ∙ ends.marked some;
     }
 
@@ -83,11 +83,12 @@ empty_crash gap log c marked torn = elim (next_or_none (suc gap) c) [
       inr (recovered_same (suc gap) c log (now.1 ∙ ap next_behind same ∙ sym (next_open (suc gap) log marked)))
 ]
 
-module _ (gap : ℕ) (log new : List ℕ) (holds : WritesAt log 0 (zeros (suc gap)) new) where
+module _ (gap : ℕ) (log gate : List ℕ) (gate_len : length gate ≡ suc gap) (gate_first : get_or gate 0 0 ≡ 0)
+    (new : List ℕ) (holds : WritesAt log 0 gate new) where
   gate_now : get_or new 0 0 ≡ 0
   gate_now = sym (get_dropped 0 new)
-      ∙ ap (λ (l : List ℕ). get_or l 0 0) (held_at log 0 (zeros (suc gap)) new (omega arith) holds)
-      ∙ zero_first (suc gap) _ (omega arith)
+      ∙ ap (λ (l : List ℕ). get_or l 0 0) (held_at log 0 gate new (omega arith) holds)
+      ∙ (first_of gate _ (omega (arith, gate_len)) ∙ gate_first)
 
   -- a log whose first gate was shut has no record
   pub emptied : recovered_at (suc gap) new ≡ []
@@ -97,7 +98,7 @@ module _ (gap : ℕ) (log new : List ℕ) (holds : WritesAt log 0 (zeros (suc ga
   pub emptied_ends : EndsShut (suc gap) new 0
   emptied_ends = record {
     prefix = λ tail. ap (λ (ps : List (List ℕ)). ps ++ recovered_at (suc gap) tail) (sym emptied);
-    room = omega (arith, held_len log 0 (zeros (suc gap)) new (omega arith) holds, length-zeros (suc gap));
+    room = omega (arith, held_len log 0 gate new (omega arith) holds, gate_len);
     shut = λ is. absurd (omega (arith, is, gate_now));
     marked = λ some. absurd (omega arith);
   }

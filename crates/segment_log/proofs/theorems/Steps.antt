@@ -1,9 +1,9 @@
 -- What a crash may leave of both files after each write of a commit.
-use Rattle.std.proofs.Common.{◌≡◌, inl, ℕ, suc, ◌+◌, ◌^◌, ◌<◌, List, [], ◌∷◌, ◌++◌, length, get_or, sym, ◌∙◌, ap, subst}
+use Rattle.std.proofs.Common.{◌≡◌, inl, ℕ, ◌+◌, ◌^◌, ◌<◌, List, [], ◌∷◌, ◌++◌, length, get_or, sym, ◌∙◌, ap, subst}
 use Rattle.segment_log.specs.Crashes.{LoggedFile, WritesAt, TornWrite, WritesLog, Follows, TornFrom, LogIs, Only}
-use Rattle.segment_log.specs.Records.{recovered, body_at, zeros, EndsShut, KeepsOrAddsRecord}
+use Rattle.segment_log.specs.Records.{recovered, record_body, open_gate, shut_gate, EndsShut, KeepsOrAddsRecord}
 use Rattle.segment_log.proofs.theorems.Crash.{behind_keeps, gate_crash, added, ends_now}
-use Rattle.segment_log.proofs.records.Pieces.{length-zeros}
+use Rattle.segment_log.proofs.records.Pieces.{length-open, length-shut, open_first, shut_first}
 
 -- a file and a log make up both
 pub same_files : (c d : LoggedFile) → c.base ≡ d.base → c.log ≡ d.log → c ≡ d
@@ -33,17 +33,17 @@ module _ (files : LoggedFile) (end : ℕ) (ends : EndsShut 4096 files.log end) (
       }
 
   module _ (small : length payload < 256 ^ 8) (staged bytes block done : List ℕ)
-      (bytes_are : bytes ≡ body_at 4096 payload) (holds : WritesAt files.log (end + 4096) bytes staged)
+      (bytes_are : bytes ≡ record_body payload) (holds : WritesAt files.log (end + 4096) bytes staged)
       (mid : LoggedFile → Type 0) (n : ℕ) (follows : Follows (WritesLog (end + 4096) n) old mid)
-      (is : LogIs staged mid) (block_is : block ≡ 1 ∷ zeros 4095) where
-    abbrev held : WritesAt files.log (end + 4096) (body_at 4096 payload) staged
+      (is : LogIs staged mid) (block_is : block ≡ open_gate) where
+    abbrev held : WritesAt files.log (end + 4096) (record_body payload) staged
     held = subst (λ (b : List ℕ). WritesAt files.log (end + 4096) b staged) bytes_are holds
 
     size : length block ≡ 4096
-    size = ap length block_is ∙ ap (λ (k : ℕ). suc k) (length-zeros 4095)
+    size = ap length block_is ∙ length-open
 
     first : get_or block 0 0 ≡ 1
-    first = ap (λ (l : List ℕ). get_or l 0 0) block_is
+    first = ap (λ (l : List ℕ). get_or l 0 0) block_is ∙ open_first
 
     -- a crash while the gate is opened leaves the records, with the new one or without
     pub gate_moment : (c : LoggedFile) → TornFrom end (length block) mid c → KeepsOrAddsRecord files payload c
@@ -54,16 +54,21 @@ module _ (files : LoggedFile) (end : ℕ) (ends : EndsShut 4096 files.log end) (
         record {
           base = from.2.base
               ∙ base_after files old mid (end + 4096) n (base_of_only files old only) follows from.0 from.1;
-          log = gate_crash 4095 files.log end ends payload small staged held c.log torn;
+          log =
+              gate_crash 4095 files.log end ends payload small staged shut_gate length-shut shut_first held c.log torn;
         }
 
     -- the open gate adds the record
     pub one_added : WritesAt staged end block done → recovered done ≡ recovered files.log ++ payload ∷ []
-    one_added marks = added 4095 files.log end ends payload small staged held block first size done marks
+    one_added marks =
+        added 4095 files.log end ends payload small staged shut_gate length-shut shut_first held block first size done
+        marks
 
     -- the log ends behind the record
     pub ends_there : WritesAt staged end block done → EndsShut 4096 done (end + 4096 + 8 + length payload)
-    ends_there marks = ends_now 4095 files.log end ends payload small staged held block first size done marks
+    ends_there marks =
+        ends_now 4095 files.log end ends payload small staged shut_gate length-shut shut_first held block first size
+        done marks
 
     -- and all of it is on the disk
     pub settled_files : (new : LoggedFile) (out : LoggedFile → Type 0) (k : ℕ) → new.base ≡ files.base

@@ -2,7 +2,7 @@ use Rattle.std.proofs.Common.{◌≡◌, List, ℕ, refl, ◌∙◌, subst, true
 use Rattle.std.proofs.lemmas.Result.{err_from_is_err_and}
 use Rattle.segment_log.specs.Committing.{AsksFor}
 use Rattle.segment_log.specs.Laws.{through_events}
-use Rattle.segment_log.specs.Records.{zeros}
+use Rattle.segment_log.specs.Records.{shut_gate}
 use Rattle.segment_log.proofs.committing.Ended.{not_begun, not_placed, not_emptied, emptied_now, through}
 use Rattle.segment_log.proofs.committing.checkpoint.Goals as goal
 
@@ -26,7 +26,7 @@ returns-in_err-write_through g c =
     let w = c.in_err-write_through.ensures in
     let mid = c.place.new.self in
     let new = c.write_through.new.disk in
-    let gate : c.deref.result.now ≡ zeros 4096 = c.deref.ensures.value ∙ c.in_ok-gate.ensures in
+    let gate : c.deref.result.now ≡ shut_gate = c.deref.ensures.value ∙ c.in_ok-gate.ensures in
     rw (p.1, p.2) (not_emptied step c.args.disk.now new c.args.image.now mid c.in_ok-place.ensures w.written w.synced
     w.answer (subst (λ (b : List ℕ). AsksFor step mid (through_events 0 b w.written w.synced) new) gate w.asked))
 
@@ -36,7 +36,7 @@ returns g c =
     let w = c.in_ok-write_through.ensures in
     let mid = c.place.new.self in
     let new = c.write_through.new.disk in
-    let gate : c.deref.result.now ≡ zeros 4096 = c.deref.ensures.value ∙ c.in_ok-gate.ensures in
+    let gate : c.deref.result.now ≡ shut_gate = c.deref.ensures.value ∙ c.in_ok-gate.ensures in
     emptied_now step c.args.disk.now new c.args.image.now mid c.in_ok-place.ensures
     (subst (λ (b : List ℕ). AsksFor step mid (through_events 0 b true true) new) gate
     (through step mid new 0 c.deref.result.now w.written w.synced w.answer w.asked))

@@ -1,7 +1,8 @@
 use Rattle.std.proofs.Common.{◌≡◌, ◌⊎◌, inl, inr, ◌≤◌, ◌^◌, ◌+◌, List, ℕ, length, refl, ◌∙◌, subst, true}
 use Rattle.std.proofs.lemmas.Result.{err_from_is_err_and}
 use Rattle.segment_log.specs.Committing.{AsksFor}
-use Rattle.segment_log.specs.Laws.{body, open_gate, through_events}
+use Rattle.segment_log.specs.Laws.{through_events}
+use Rattle.segment_log.specs.Records.{open_gate, record_body}
 use Rattle.segment_log.specs.declared.committing.CommitError.TheVariants.{OutOfMemory, TooLong}
 use Rattle.segment_log.proofs.committing.Ended.{refused, body_failed, gate_failed, gate_opened, through}
 use Rattle.segment_log.proofs.committing.commit.Goals as goal
@@ -37,7 +38,7 @@ returns-in_err-write_through g c =
     let from = c.from_residual-in_err-write_through in
     let p = err_from_is_err_and from.result from.ensures.1 in
     let w = c.in_err-write_through.ensures in
-    let is : c.deref.result.now ≡ body c.args.payload.now = c.deref.ensures.value ∙ c.in_ok-body.ensures in
+    let is : c.deref.result.now ≡ record_body c.args.payload.now = c.deref.ensures.value ∙ c.in_ok-body.ensures in
     rw (p.1, p.2) (body_failed step c.args.disk.now c.write_through.new.disk c.args.end c.args.payload.now
     w.written w.synced w.answer
     (subst (λ (b : List ℕ). AsksFor step c.args.disk.now (through_events (c.args.end + 4096) b w.written w.synced)
@@ -52,7 +53,7 @@ returns-in_err-write_through-2 g c =
     let w = c.in_err-write_through-2.ensures in
     let mid = c.write_through.new.disk in
     let new = c.write_through-2.new.disk in
-    let is : c.deref.result.now ≡ body c.args.payload.now = c.deref.ensures.value ∙ c.in_ok-body.ensures in
+    let is : c.deref.result.now ≡ record_body c.args.payload.now = c.deref.ensures.value ∙ c.in_ok-body.ensures in
     let gate : c.deref-2.result.now ≡ open_gate = c.deref-2.ensures.value ∙ c.in_ok-gate.ensures in
     rw (p.1, p.2) (gate_failed step c.args.disk.now new c.args.end c.args.payload.now mid
     (subst (λ (b : List ℕ). AsksFor step c.args.disk.now (through_events (c.args.end + 4096) b true true) mid) is
@@ -68,7 +69,7 @@ returns g c =
     let second = c.in_ok-write_through-2.ensures in
     let mid = c.write_through.new.disk in
     let new = c.write_through-2.new.disk in
-    let is : c.deref.result.now ≡ body c.args.payload.now = c.deref.ensures.value ∙ c.in_ok-body.ensures in
+    let is : c.deref.result.now ≡ record_body c.args.payload.now = c.deref.ensures.value ∙ c.in_ok-body.ensures in
     let gate : c.deref-2.result.now ≡ open_gate = c.deref-2.ensures.value ∙ c.in_ok-gate.ensures in
     gate_opened step c.args.disk.now new c.args.end c.args.payload.now mid
     (subst (λ (b : List ℕ). AsksFor step c.args.disk.now (through_events (c.args.end + 4096) b true true) mid) is

@@ -2,7 +2,7 @@ use Rattle.std.proofs.Common.{◌≡◌, List, ℕ, refl, ◌∙◌, subst, true
 use Rattle.std.proofs.lemmas.Result.{err_from_is_err_and}
 use Rattle.segment_log.specs.Committing.{AsksFor}
 use Rattle.segment_log.specs.Laws.{through_events}
-use Rattle.segment_log.specs.Records.{zeros}
+use Rattle.segment_log.specs.Records.{shut_gate}
 use Rattle.segment_log.proofs.committing.Ended.{not_shut, half_shut, shut_now, through}
 use Rattle.segment_log.proofs.committing.shut.Goals as goal
 
@@ -18,7 +18,7 @@ returns-in_err-write_through g c =
     let p = err_from_is_err_and from.result from.ensures.1 in
     let w = c.in_err-write_through.ensures in
     let new = c.write_through.new.disk in
-    let gate : c.deref.result.now ≡ zeros 4096 = c.deref.ensures.value ∙ c.in_ok-closed.ensures in
+    let gate : c.deref.result.now ≡ shut_gate = c.deref.ensures.value ∙ c.in_ok-closed.ensures in
     rw (p.1, p.2) (half_shut step c.args.disk.now new c.args.end w.written w.synced w.answer
     (subst (λ (b : List ℕ). AsksFor step c.args.disk.now (through_events c.args.end b w.written w.synced) new) gate
     w.asked))
@@ -28,7 +28,7 @@ returns g c =
     let step = g.D.LogDisk.log_step in
     let w = c.in_ok-write_through.ensures in
     let new = c.write_through.new.disk in
-    let gate : c.deref.result.now ≡ zeros 4096 = c.deref.ensures.value ∙ c.in_ok-closed.ensures in
+    let gate : c.deref.result.now ≡ shut_gate = c.deref.ensures.value ∙ c.in_ok-closed.ensures in
     shut_now step c.args.disk.now new c.args.end
     (subst (λ (b : List ℕ). AsksFor step c.args.disk.now (through_events c.args.end b true true) new) gate
     (through step c.args.disk.now new c.args.end c.deref.result.now w.written w.synced w.answer w.asked))

@@ -1154,15 +1154,157 @@ def views():
         view = None
         same(on_a_thread(lambda: s["v"].append(3)), None)
         same(s["v"].copy(), [1, 2, 3])
-    s = zaluxhoni.open(path, "w", mapped=True)
-    view = s["v"].view()
-    view[0] = 9
-    raises(zaluxhoni.Lent, s.close)
-    raises(zaluxhoni.Lent, s.discard)
-    del view
-    s.close()
+    # of a file that is mapped too, whose elements they do not change any more
+    for mode, end, named in (("w", "close", {"mapped": True}), ("w", "discard", {"mapped": True}),
+                             ("r", "close", {"mapped": True}), ("p", "discard", {"mapped": True}),
+                             ("w", "close", {"durable": True}), ("w", "discard", {"durable": True})):
+        with zaluxhoni.open(path, "w") as s:
+            s["v"], s["long"] = [7, 8], range(2000)
+        s = zaluxhoni.open(path, mode, **named)
+        view, long = s["v"].view(), s["long"].view()
+        if mode != "r":
+            view[0] = 9
+        getattr(s, end)()
+        same((s.is_open, view.tolist(), long[:3].tolist(), long[-1]), (False, [7 if mode == "r" else 9, 8], [0, 1, 2],
+                                                                      1999))
+        with zaluxhoni.open(path, "w") as s:
+            is_kept = mode == "w" and (end == "close" or "mapped" in named)
+            same(s["v"].copy(), [9 if is_kept else 7, 8])
+            s["v"] = [3, 4]
+        if mode == "w":
+            view[1] = 10
+        del s
+        gc.collect()
+        same((view.tolist()[0], long[1999]), (7 if mode == "r" else 9, 1999))
+        del view, long
+
+
+def undone_beside_views():
+    """A transaction that an exception leaves is undone, whatever views exist: they keep the bytes that they showed."""
+    class Broken(Exception):
+        pass
+
+    for named in ({}, {"mapped": True}, {"durable": True}):
+        for is_first in (True, False):
+            for size in (4096, 1 << 20):
+                undone_beside_a_view(named, is_first, size, Broken)
+    # the view of a function whose frame is in the traceback
+    for named in ({}, {"mapped": True}, {"durable": True}):
+        path = new("undone")
+        with zaluxhoni.open(path, "x", size=4096) as s:
+            s["v"], s["n"] = [1, 2], 1
+
+        def negates(s):
+            view = s["v"].view()
+            view[0], s["n"] = -1, 2
+            raise Broken(view[0])
+
+        s = zaluxhoni.open(path, "w", **named)
+        try:
+            with s.transaction():
+                negates(s)
+        except Broken as error:
+            kept = error
+        same((kept.args, s["n"], s["v"].copy()), ((-1,), 1, [1, 2]))
+        s.close()
+        with zaluxhoni.open(path, "r") as s:
+            same((s["n"], s["v"].copy()), (1, [1, 2]))
+
+
+def undone_beside_a_view(named, is_first, size, broken):
+    path = new("undone")
+    with zaluxhoni.open(path, "x", size=size, **named) as s:
+        s["v"], s["n"] = [1, 2], 1
+        s.flush()
+        view = s["v"].view() if is_first else None
+        inner = made = None
+        try:
+            with s.transaction():
+                s["n"] = 2
+                try:
+                    with s.transaction():
+                        inner = s["v"].view()
+                        inner[1] = 3
+                        s["new"] = [5] * 3
+                        made = s["new"].view()
+                        raise broken(1)
+                except broken:
+                    same((s["n"], s["v"].copy(), "new" in s, inner.tolist(), made.tolist()),
+                         (2, [1, 2], False, [1, 3], [5] * 3))
+                view = view or s["v"].view()
+                s["v"][0] = 4
+                s["more"] = range(100)
+                raise broken(2)
+        except broken as error:
+            same(error.args, (2,))
+        same((s["n"], s["v"].copy(), list(s), inner.tolist(), made.tolist()),
+             (1, [1, 2], ["n", "v"], [1, 3], [5] * 3))
+        # a view is one of the segment no more, whose elements move again
+        view[0], made[0] = 9, 9
+        same((s["v"].copy(), s.sanity()), ([1, 2], True))
+        s["v"].extend(range(1000))
+        with s.transaction():
+            s["n"] = 6
+        same((s["n"], len(s["v"]), view[0], inner[1]), (6, 1002, 9, 3))
+    same((view[0], inner[1], made[1]), (9, 3, 5))
     with zaluxhoni.open(path, "r") as s:
-        same(s["v"].copy(), [9, 8])
+        same((s["n"], len(s["v"]), list(s)), (6, 1002, ["n", "v"]))
+
+
+def what_cannot_be_undone():
+    """If memory is refused for the undo of a transaction, nothing of it is saved."""
+    zx = zaluxhoni._library.zx
+    undo = zx.zx_file_undo
+    for named in ({}, {"mapped": True}, {"durable": True}):
+        for size in (4096, 1 << 20):
+            path = new("torn")
+            with zaluxhoni.open(path, "x", size=size) as s:
+                s["n"] = 1
+            s = zaluxhoni.open(path, "w", **named)
+
+            def fails_to_undo():
+                zx.zx_file_undo = lambda *_: zaluxhoni.NoMemory.code
+                try:
+                    with s.transaction():
+                        s["n"] = 2
+                        raise KeyError
+                finally:
+                    zx.zx_file_undo = undo
+
+            # an outer transaction undoes what an inner one could not, and is not kept otherwise
+            def outer(is_kept):
+                with s.transaction():
+                    s["n"] = 3
+                    try:
+                        fails_to_undo()
+                    except zaluxhoni.NoMemory:
+                        if not is_kept:
+                            raise
+            raises(zaluxhoni.NoMemory, outer, False)
+            same(s["n"], 1)
+            raises(zaluxhoni.NotUndone, outer, True)
+            same(s["n"], 1)
+            s.flush()
+            raises(zaluxhoni.NoMemory, fails_to_undo)
+            for call in (s.save, s.flush, s.commit, s.close):
+                raises(zaluxhoni.NotUndone, call)
+            same((s.is_open, len(s._steps)), (True, 0))
+            s.discard()
+            with zaluxhoni.open(path, "r") as s:
+                same(s["n"], 1)
+
+            def in_block():
+                with zaluxhoni.open(path, "w", **named) as opened:
+                    nonlocal s
+                    s = opened
+                    try:
+                        fails_to_undo()
+                    except zaluxhoni.NoMemory:
+                        pass
+            raises(zaluxhoni.NotUndone, in_block)
+            same(s.is_open, False)
+            with zaluxhoni.open(path, "r") as s:
+                same(s["n"], 1)
 
 
 def raises_bare(error, call):
@@ -1379,10 +1521,9 @@ def files_that_are_durable():
     view = s["numbers"].view()
     with s.transaction():
         view[0] = 10
-    raises(zaluxhoni.Lent, s.close)
-    view.release()
-    view = None
+    view[1] = 20
     s.discard()
+    same(view.tolist(), [10, 20, 3])
     # what reads, and what maps otherwise, finds the commits; only who may write ends the log
     with zaluxhoni.open(path, "r") as reader:
         same((reader["a"], list(reader["numbers"])), (7, [10, 2, 3]))
@@ -2207,7 +2348,7 @@ for case in (an_anonymous_object, names, index_and_object_do_not_both_fit, array
              refusals_have_names,
              copies, a_list_as_list_is_one, threads_that_follow_each_other, one_segment_of_many_threads, groups,
              transactions,
-             records, views, size_and_region, calls_of_c, what_is_refused, what_shows_a_class, one_thread, files,
+             records, views, undone_beside_views, what_cannot_be_undone, size_and_region, calls_of_c, what_is_refused, what_shows_a_class, one_thread, files,
              files_that_are_mapped, files_that_are_durable, what_is_refused_by_name, a_process_that_forks, a_relative_path, files_that_fail,
              what_is_read_again, what_is_not_closed, the_end_of_the_process, the_end_of_a_block, errors_are_copied,
              none_is_no_name, records_of_other_packages, records_as_list_are_one, tasks_with_transactions,

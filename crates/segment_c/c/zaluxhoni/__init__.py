@@ -26,7 +26,7 @@ from ._errors import (Absent, BadContainer, BadCount, BadFreeTree, BadGrowth, Ba
                       BadKind, BadMagic, BadMode, BadName, BadObject, BadReserved, BadSize, BadTag, BadValue, Closed,
                       DanglingLink, Error, Exists, FileError, FileExists, FileFault, FileForked, FileInStep, FileInUse,
                       FileLogForeign, FileMissing, FileReplaced, FileTooLarge, FileUnsure, FileUnsynced, IsDevice,
-                      IsFolder, IsPipe, Lent, NoElement, NoFile, NoMemory, NoSpace, NotFound, NullSlice, OrphanBlock,
+                      IsFolder, IsPipe, Lent, NoElement, NoFile, NoMemory, NoSpace, NotFound, NotUndone, NullSlice, OrphanBlock,
                       OutOfRange, ReadOnly, SharedBlock, ShortBuffer, ShortRegion, TooLarge, Truncated,
                       UnsupportedVersion, WrongKind, WrongTask, WrongThread, image_error_of, shown)
 from ._library import zx
@@ -41,7 +41,7 @@ __all__ = [
     "Object", "Array", "Vector", "Strings", "String", "Map", "Records", "Info", "Tile", "Error", "ReadOnly", "Exists",
     "NotFound", "WrongKind", "OutOfRange", "NoSpace", "Absent", "NoElement", "Closed", "BadKey", "BadName", "BadKind",
     "BadValue", "BadCount", "BadSize", "BadMode", "ShortBuffer", "NullSlice", "NoMemory", "ShortRegion", "BadGrowth",
-    "TooLarge", "Lent", "WrongThread", "WrongTask", "BadImage", "Truncated", "BadMagic", "UnsupportedVersion",
+    "TooLarge", "Lent", "NotUndone", "WrongThread", "WrongTask", "BadImage", "Truncated", "BadMagic", "UnsupportedVersion",
     "BadImageSize", "BadReserved", "BadTag", "BadFreeTree", "BadIndex", "BadObject", "SharedBlock", "BadContainer",
     "OrphanBlock", "NoFile", "FileError", "FileInUse", "FileExists", "FileMissing", "DanglingLink", "IsFolder",
     "IsDevice", "IsPipe", "FileTooLarge", "FileFault", "FileReplaced", "FileUnsynced", "FileForked",

@@ -318,6 +318,14 @@ class WrongTask(Error, RuntimeError):
         Exception.__init__(self, *(arguments or ("another task has a transaction open",)))
 
 
+class NotUndone(Error, RuntimeError):
+    """A transaction failed, and memory or the system refused to undo it. The segment may have a part of its changes, and
+    is not saved any more: `discard` it."""
+
+    def __init__(self, *arguments: object) -> None:
+        Exception.__init__(self, *(arguments or ("a transaction could not be undone: discard the segment",)))
+
+
 class NoElement(Error, ValueError):
     """A list has no such element."""
 

@@ -16,10 +16,10 @@ from typing import (TYPE_CHECKING, Any, Callable, Dict, ItemsView, Iterator, Key
                     NamedTuple, Optional, Tuple, ValuesView, overload)
 
 from . import _library
-from ._errors import (BadCount, BadKey, BadName, BadValue, Error, FileForked, FileUnsynced, Lent, NotFound,
+from ._errors import (BadCount, BadKey, BadName, BadValue, Error, FileForked, FileUnsynced, Lent, NotFound, NotUndone,
                       WrongKind, WrongTask, WrongThread, error_of, file_error_of, named, no_space, shown)
 from ._library import BOOL, I32, I64, MAP, NO_SPACE, STRING, STRINGS, U8, U64, VECTOR, quick, zx
-from ._objects import SAME, Array, Map, Object, _Pairs, String, Strings, Vector, bytes_in, object_of
+from ._objects import SAME, Array, Lease, Left, Map, Object, _Pairs, String, Strings, Vector, bytes_in, object_of
 from ._records import Records
 from ._values import (KINDS, MOST, TEXTS, Key, MapKind, ScalarKind, Texts, VectorKind, code_of, counted, encoded,
                       handle, is_scalar, is_truth, listed, natural, number_in, pairs_of, raw_key, row, scalar, value_of,
@@ -500,24 +500,12 @@ def _scalar_for(values: Any, key: Any) -> str:
         raise WrongKind(f"{shown(key)}: {error}") from None
 
 
-class _Left:
-    """Holds memory for views after their segment is closed."""
-
-    memory = _library.Memory()
-
-    def __init__(self) -> None:
-        self.memory = _library.Memory()
-
-    def __del__(self) -> None:
-        _library.free(self.memory.at)
-
-
 class Segment(_Named, _library.Block):
     """A segment, used as a mapping from names to objects, in the order of the names' bytes. `open`, `create` and `load`
     make one."""
     __slots__ = ("_file", "_handle", "_prefix", "_own_encoding", "_thread_number", "_may_ask", "_opener", "_thread",
                  "_process", "_changes_at_fork", "_is_told", "_lock", "_changes", "_lent", "_any_name", "_was_lent",
-                 "_left", "_path", "_is_mapped", "_is_durable", "_classes", "_steps", "_task", "_restored", "_held",
+                 "_path", "_is_mapped", "_is_durable", "_classes", "_steps", "_task", "_restored", "_torn", "_held",
                  "_was_refused", "growing", "encoding", "__weakref__")
     if TYPE_CHECKING:
         def __enter__(self) -> Segment:
@@ -536,14 +524,16 @@ class Segment(_Named, _library.Block):
         self._process, self._changes_at_fork, self._is_told = os.getpid(), 0, False
         self._lock = threading.RLock()
         self._changes = 0
-        self._lent: List[Tuple[Any, int]] = []
+        self._lent: List[Tuple[Callable[[], Optional[Lease]], int]] = []
         self._steps: List[_library.Step] = []
         self._task: Any = None
         self._restored: Optional[Tuple[bytes, int, int]] = None
         # the lock of its `with` block is its own, so no other thread waits while the block runs
         self._held, self._was_refused = threading.RLock(), False
         self._any_name = ctypes.create_string_buffer(_LONGEST_NAME)
-        self._was_lent, self._left = False, []  # type: Tuple[bool, List[_Left]]
+        self._was_lent = False
+        # how many transactions were open when one of them could not be undone; 0: each was undone
+        self._torn = 0
         self._path: Any = None
         self._is_mapped = self._is_durable = False
         self._classes: Dict[Any, Any] = _plain if check_same_thread else _locked_classes()
@@ -694,11 +684,17 @@ class Segment(_Named, _library.Block):
         if code:
             raise self._error(code, key)
 
+    def _leases(self) -> List[Lease]:
+        """Returns the leases of the views that exist, and show the segment."""
+        found = [lent[0]() for lent in self._lent]
+        return [lease for lease in found if lease is not None and lease.is_current]
+
     def _is_lent(self) -> bool:
         """Tells whether a view exists. Views that are gone leave the list here, and not at the moment when they go: a
         signal could prevent that."""
         if self._lent:
-            self._lent = [lent for lent in self._lent if lent[0]() is not None]
+            found = [(lent[0](), lent) for lent in self._lent]
+            self._lent = [lent for lease, lent in found if lease is not None and lease.is_current]
         return bool(self._lent)
 
     def _refuse_lent(self, key: Any) -> None:
@@ -787,6 +783,18 @@ class Segment(_Named, _library.Block):
             self._thread_number = self._may_ask.value = self._opener
             self._task = None
 
+    def _depth_of(self, before: _library.Step) -> int:
+        """Returns how many transactions are open up to this one."""
+        return [step is before for step in self._steps].index(True) + 1
+
+    def _keeps_step(self, before: _library.Step) -> bool:
+        """Whether the pages of a mapped file stay private, since its transaction could not be undone."""
+        return bool(self._torn) and self._is_mapped and not self._is_durable and len(self._steps) == 1
+
+    def _refuse_torn(self) -> None:
+        if self._torn:
+            raise NotUndone()
+
     def _roll_back(self, before: _library.Step) -> None:
         """Restores the segment. Views keep their bytes, in memory of their own. If a signal handler interrupts it, a
         second call continues."""
@@ -794,7 +802,8 @@ class Segment(_Named, _library.Block):
         if self._restored is None:
             if not self._is_lent():
                 return self._file_call(zx.zx_file_undo, self._path, before)
-            self._refuse_lent_file()
+            if self._is_mapped:
+                return self._file_call(zx.zx_file_undo_beside, self._path, before, *self._leave_copy())
             length = ctypes.c_uint64()
             zx.zx_step_image(before, None, 0, length)
             image = ctypes.create_string_buffer(length.value)
@@ -803,7 +812,6 @@ class Segment(_Named, _library.Block):
         image_before, capacity, mode = self._restored
         if self.is_open:
             self._leave_memory()
-        self._lent.clear()
         self._call(zx.zx_open, image_before, len(image_before), capacity, mode)
         self._restored = None
 
@@ -813,21 +821,29 @@ class Segment(_Named, _library.Block):
         """Saves the segment in its file, unless the file has these bytes already. A new file replaces the old one when
         it is completely on the disk. So the name always leads to a whole file, the old or the new one. ReadOnly,
         NoFile, FileError; of all errors, only FileUnsynced means that the segment is saved."""
-        self._note_views()
-        self._file_call(zx.zx_file_save, self._path)
+        self._save(zx.zx_file_save)
 
     def commit(self) -> None:
         """Commits the changes of a file opened with `durable`: then they are on the disk, and survive whatever ends the
         process. The cost depends on what was changed. For any other file it does what `flush` does. The errors of
         `save`; FileInStep in a transaction; FileUnsure if nobody knows whether the changes are on the disk."""
-        self._note_views()
-        self._file_call(zx.zx_file_commit, self._path)
+        self._save(zx.zx_file_commit)
 
     def flush(self) -> None:
         """Waits until the changes of a mapped file are on the disk, and commits a durable one; saves any other file.
         The errors of `save` and `commit`."""
+        self._save(zx.zx_file_flush)
+
+    def _save(self, call: Any) -> None:
+        self._refuse_save()
         self._note_views()
-        self._file_call(zx.zx_file_flush, self._path)
+        self._file_call(call, self._path)
+
+    def _refuse_save(self) -> None:
+        """Raises NotUndone behind a transaction that could not be undone."""
+        if self._thread_number and _here.number != self._thread_number:
+            self._refuse_stranger()
+        self._refuse_torn()
 
     def save_as(self, path: Any) -> None:
         """Saves the image to a new file. FileExists, FileError."""
@@ -835,34 +851,46 @@ class Segment(_Named, _library.Block):
 
     def close(self) -> None:
         """Saves the file, if it is open for writing, and closes the segment. After an error other than FileUnsynced it
-        is still open. A view keeps the memory that it shows; a view of a mapped file raises Lent."""
-        if self._is_lent():
-            self._refuse_lent_file()
-            try:
-                if self._file.held:
-                    self.save()
-            except FileUnsynced:
-                self.discard()
-                raise
-            return self.discard()
-        self._changes += 1
-        self._note_views()
-        self._file_call(zx.zx_file_close, self._path)
+        is still open. A view keeps the bytes that it shows."""
+        self._refuse_save()
+        if not self._is_lent():
+            self._changes += 1
+            self._note_views()
+            return self._file_call(zx.zx_file_close, self._path)
+        if self._is_mapped:
+            self._changes += 1
+            self._note_views()
+            return self._file_call(zx.zx_file_close_beside, self._path, True, *self._leave_copy())
+        try:
+            if self._file.held:
+                self.save()
+        except FileUnsynced:
+            self.discard()
+            raise
+        self.discard()
 
     def discard(self) -> None:
         """Closes the segment without saving. Removes a file that it created and never saved. A mapped file stays, with
-        all changes. Lent, as for `close`."""
+        all changes. A view keeps the bytes that it shows."""
         if self._thread_number and _here.number != self._thread_number:
             self._refuse_stranger()
-        if self._is_lent():
-            self._refuse_lent_file()
-            self._leave_memory()
+        self._discard()
+
+    def _discard(self) -> None:
         self._changes += 1
+        if self._is_lent() and self._is_mapped:
+            views = self._leave_copy()
+            code = zx.zx_file_close_beside(self._file, False, *views)
+            if code:
+                raise file_error_of(code, self._file, self._path)
+        elif self._is_lent():
+            left, _ = self._leave(False)
+            zx.zx_detach(self._handle, left.memory)
         zx.zx_file_discard(self._file)
 
     # -- views
 
-    def _lend(self, lease: Any, number: int) -> None:
+    def _lend(self, lease: Lease, number: int) -> None:
         """Notes that a view holds the elements of an object."""
         self._was_lent = True
         self._lent.append((weakref.ref(lease), number))
@@ -872,16 +900,24 @@ class Segment(_Named, _library.Block):
         if self._was_lent:
             self._handle.shared = True
 
-    def _refuse_lent_file(self) -> None:
-        if self._is_mapped:
-            self._refuse_any_lent()
+    def _leave(self, is_mapped: bool) -> Tuple[Left, List[Lease]]:
+        """Returns what holds the memory of the views that exist, once a call has left it to them. The views hold it
+        before the call, since a signal handler may raise behind the call."""
+        left, leases = Left(is_mapped), self._leases()
+        for lease in leases:
+            lease.left = left
+        return left, leases
 
     def _leave_memory(self) -> None:
         """Closes the segment, and leaves its memory to the views that exist."""
-        left = _Left()
-        self._left.append(left)
+        left, _ = self._leave(False)
         self._call(zx.zx_detach, left.memory)
-        self._lent.clear()
+
+    def _leave_copy(self) -> Tuple[Any, int, _library.Memory]:
+        """Returns the last arguments of a call that leaves the views of a mapped file a copy of their bytes."""
+        left, leases = self._leave(True)
+        memory = [_library.Memory(*lease.memory) for lease in leases]
+        return (_library.Memory * len(memory))(*memory), len(memory), left.memory
 
     @property
     def is_open(self) -> bool:
@@ -904,6 +940,10 @@ class Segment(_Named, _library.Block):
                 self.close()
             else:
                 self.discard()
+        except NotUndone:
+            self._was_refused = True
+            self.discard()
+            raise
         except Error:
             self._was_refused = True
             raise
@@ -939,8 +979,8 @@ class Segment(_Named, _library.Block):
         if not self._lock.acquire(blocking=False):
             return self._say_unsaved("another thread uses it")
         try:
-            if self._steps:
-                return self._say_unsaved("a transaction is open")
+            if self._steps or self._torn:
+                return self._say_unsaved("a transaction is open" if self._steps else str(NotUndone()))
             self._note_views()
             code = zx.zx_file_save(self._file)
             if code and code != FileUnsynced.code:
@@ -1126,12 +1166,9 @@ class Transaction(_library.Block):
         if raised is None and is_open and not self._was_refused:
             self._keep(before)
         elif (before.copy.at or before.kept) and is_open and not self._was_refused:
-            try:
-                segment._roll_back(before)
-            except Error:
-                self._was_refused = True
-                raise
-        zx.zx_file_leave(segment._file, before)
+            self._undo(before)
+        if not segment._keeps_step(before):
+            zx.zx_file_leave(segment._file, before)
         segment._end_step(before)
         del self._copies[depth - 1:]
 
@@ -1140,12 +1177,25 @@ class Transaction(_library.Block):
         segment = self._segment
         segment._note_views()
         try:
+            segment._refuse_torn()
             segment._file_call(zx.zx_file_keep, segment._path, before)
         except Error:
-            if before.kept:
-                segment._roll_back(before)
+            if before.copy.at or before.kept:
+                self._undo(before)
             self._was_refused = True
             raise
+
+    def _undo(self, before: _library.Step) -> None:
+        """Restores the segment. If that fails, no call saves what the block did."""
+        segment = self._segment
+        try:
+            segment._roll_back(before)
+        except (Error, MemoryError):
+            self._was_refused = True
+            segment._torn = segment._torn or segment._depth_of(before)
+            raise
+        if segment._depth_of(before) < segment._torn:
+            segment._torn = 0
 
 
 def _task_here() -> Any:

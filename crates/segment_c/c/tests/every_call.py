@@ -1307,6 +1307,46 @@ def what_cannot_be_undone():
                 same(s["n"], 1)
 
 
+def saves_in_a_transaction():
+    """Half a step is never saved, however the file is opened."""
+    for named in ({}, {"mapped": True}, {"durable": True}):
+        path = new("step")
+        with zaluxhoni.open(path, "x", size=4096, **named) as s:
+            s["n"] = 1
+            s.flush()
+            with s.transaction():
+                s["n"] = 2
+                with s.transaction():
+                    for call in (s.save, s.commit, s.flush, s.close):
+                        raises(zaluxhoni.FileInStep, call)
+                same(s.is_open, True)
+                with zaluxhoni.open(path, "r") as reader:
+                    same(reader["n"], 1)
+                s.save_as(new("step-copy"))
+            with zaluxhoni.open(path_of("step-copy"), "r") as copied:
+                same(copied["n"], 2)
+            s["n"] = 3
+            try:
+                with s.transaction():
+                    s["n"] = 4
+                    s.close()
+            except zaluxhoni.FileInStep as error:
+                same((s["n"], error.filename), (3, path))
+        with zaluxhoni.open(path, "r") as s:
+            same(s["n"], 3)
+        # a discard is no save
+        s = zaluxhoni.open(path, "w", **named)
+        with s.transaction():
+            s["n"] = 5
+            s.discard()
+        with zaluxhoni.open(path, "r") as s:
+            same(s["n"], 3)
+    s = create(1024)
+    with s.transaction():
+        raises(zaluxhoni.FileInStep, s.close)
+    s.close()
+
+
 def raises_bare(error, call):
     try:
         call()
@@ -2348,7 +2388,7 @@ for case in (an_anonymous_object, names, index_and_object_do_not_both_fit, array
              refusals_have_names,
              copies, a_list_as_list_is_one, threads_that_follow_each_other, one_segment_of_many_threads, groups,
              transactions,
-             records, views, undone_beside_views, what_cannot_be_undone, size_and_region, calls_of_c, what_is_refused, what_shows_a_class, one_thread, files,
+             records, views, undone_beside_views, what_cannot_be_undone, saves_in_a_transaction, size_and_region, calls_of_c, what_is_refused, what_shows_a_class, one_thread, files,
              files_that_are_mapped, files_that_are_durable, what_is_refused_by_name, a_process_that_forks, a_relative_path, files_that_fail,
              what_is_read_again, what_is_not_closed, the_end_of_the_process, the_end_of_a_block, errors_are_copied,
              none_is_no_name, records_of_other_packages, records_as_list_are_one, tasks_with_transactions,

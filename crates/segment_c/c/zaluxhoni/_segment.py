@@ -16,8 +16,8 @@ from typing import (TYPE_CHECKING, Any, Callable, Dict, ItemsView, Iterator, Key
                     NamedTuple, Optional, Tuple, ValuesView, overload)
 
 from . import _library
-from ._errors import (BadCount, BadKey, BadName, BadValue, Error, FileForked, FileUnsynced, Lent, NotFound, NotUndone,
-                      WrongKind, WrongTask, WrongThread, error_of, file_error_of, named, no_space, shown)
+from ._errors import (BadCount, BadKey, BadName, BadValue, Error, FileForked, FileInStep, FileUnsynced, Lent, NotFound,
+                      NotUndone, WrongKind, WrongTask, WrongThread, error_of, file_error_of, named, no_space, shown)
 from ._library import BOOL, I32, I64, MAP, NO_SPACE, STRING, STRINGS, U8, U64, VECTOR, quick, zx
 from ._objects import SAME, Array, Lease, Left, Map, Object, _Pairs, String, Strings, Vector, bytes_in, object_of
 from ._records import Records
@@ -820,13 +820,14 @@ class Segment(_Named, _library.Block):
     def save(self) -> None:
         """Saves the segment in its file, unless the file has these bytes already. A new file replaces the old one when
         it is completely on the disk. So the name always leads to a whole file, the old or the new one. ReadOnly,
-        NoFile, FileError; of all errors, only FileUnsynced means that the segment is saved."""
+        NoFile, FileError; of all errors, only FileUnsynced means that the segment is saved. FileInStep in a
+        transaction; NotUndone behind one that could not be undone."""
         self._save(zx.zx_file_save)
 
     def commit(self) -> None:
         """Commits the changes of a file opened with `durable`: then they are on the disk, and survive whatever ends the
         process. The cost depends on what was changed. For any other file it does what `flush` does. The errors of
-        `save`; FileInStep in a transaction; FileUnsure if nobody knows whether the changes are on the disk."""
+        `save`; FileUnsure if nobody knows whether the changes are on the disk."""
         self._save(zx.zx_file_commit)
 
     def flush(self) -> None:
@@ -840,9 +841,11 @@ class Segment(_Named, _library.Block):
         self._file_call(call, self._path)
 
     def _refuse_save(self) -> None:
-        """Raises NotUndone behind a transaction that could not be undone."""
+        """Raises FileInStep in a transaction, since half a step is never saved, and NotUndone behind one."""
         if self._thread_number and _here.number != self._thread_number:
             self._refuse_stranger()
+        if self._steps:
+            raise FileInStep(None, self._path)
         self._refuse_torn()
 
     def save_as(self, path: Any) -> None:
@@ -851,7 +854,7 @@ class Segment(_Named, _library.Block):
 
     def close(self) -> None:
         """Saves the file, if it is open for writing, and closes the segment. After an error other than FileUnsynced it
-        is still open. A view keeps the bytes that it shows."""
+        is still open. The errors of `save`. A view keeps the bytes that it shows."""
         self._refuse_save()
         if not self._is_lent():
             self._changes += 1

@@ -5,6 +5,7 @@ import copy
 import ctypes
 import dataclasses
 import gc
+import io
 import json
 import os
 import pickle
@@ -1702,17 +1703,33 @@ def what_is_read_again():
 
 
 def what_is_not_closed():
-    """A segment that is collected while it is open is saved, and a warning says so."""
+    """A segment that is collected while it is open is discarded, and a warning names its file."""
     path = new("dropped")
-    with warnings.catch_warnings(record=True) as caught:
-        warnings.simplefilter("always")
-        s = zaluxhoni.open(path, "c", size=1024)
-        s["a"] = 5
-        del s
+    for named, kept in (({}, 1), ({"durable": True}, 1), ({"mapped": True}, 2)):
+        with zaluxhoni.open(path, "c", size=1024) as s:
+            s["a"] = 1
+        for change, word in ((1, None), (2, " is lost")):
+            before, sys.stderr = sys.stderr, io.StringIO()
+            with warnings.catch_warnings(record=True) as caught:
+                warnings.simplefilter("always")
+                s = zaluxhoni.open(path, "c", **named)
+                if change != 1:
+                    s["a"] = change
+                del s
+                gc.collect()
+            said, sys.stderr = sys.stderr.getvalue(), before
+            same([(warning.category, repr(path) in str(warning.message)) for warning in caught],
+                 [(ResourceWarning, True)])
+            is_lost = word is not None and "mapped" not in named
+            same((path in said, " is lost" in said, said.count("\n")), (is_lost, is_lost, int(is_lost)))
+        with zaluxhoni.open(path, "r") as s:
+            same(s["a"], kept)
+    # a file that it made and never saved is removed
+    with warnings.catch_warnings():
+        warnings.simplefilter("ignore")
+        zaluxhoni.open(new("made"), "x")
         gc.collect()
-    same([warning.category for warning in caught], [ResourceWarning])
-    with zaluxhoni.open(path, "r") as s:
-        same(s["a"], 5)
+    same(os.path.exists(path_of("made")), False)
 
 
 def program(text, *arguments):
@@ -1737,12 +1754,17 @@ def kept_by(text, *words):
 
 
 def the_end_of_the_process():
-    same(kept_by("s['a'] = 2"), (0, {"a": 2}))
-    same(kept_by("s['a'] = 2; sys.exit(0)"), (0, {"a": 2}))
-    same(kept_by("s['a'] = 2; sys.exit(3)"), (3, {"a": 2}))
-    same(kept_by("s['a'] = 2; raise KeyError", "KeyError"), (1, {"a": 2}))
-    same(kept_by("view = s.vector('v').view(); s['a'] = 2"), (0, {"a": 2, "v": []}))
-    same(kept_by("s['v'] = [1]; view = s['v'].view(); view[0] = 7"), (0, {"a": 1, "v": [7]}))
+    """What nobody saved is not saved, and a line says so if something changed."""
+    lost = "not closed", "is lost"
+    same(kept_by("s['a'] = 2", *lost), (0, {"a": 1}))
+    same(kept_by("s['a'] = 2; sys.exit(0)", *lost), (0, {"a": 1}))
+    same(kept_by("s['a'] = 2; sys.exit(3)", *lost), (3, {"a": 1}))
+    same(kept_by("s['a'] = 2; raise KeyError", "KeyError", *lost), (1, {"a": 1}))
+    same(kept_by("view = s.vector('v').view(); s['a'] = 2", *lost), (0, {"a": 1}))
+    same(kept_by("s['v'] = [1]; s.save(); view = s['v'].view(); view[0] = 7", *lost), (0, {"a": 1, "v": [1]}))
+    same(kept_by("s['a'] = 2; s.save(); s['a'] = 3", *lost), (0, {"a": 2}))
+    same(kept_by("s['a'] = 2; s.save()"), (0, {"a": 2}))
+    same(kept_by("s['a']"), (0, {"a": 1}))
     # what its program has saved or discarded is not touched
     same(kept_by("s['a'] = 2; s.discard()"), (0, {"a": 1}))
     same(kept_by("s['a'] = 2; s.close()"), (0, {"a": 2}))
@@ -1752,31 +1774,43 @@ def the_end_of_the_process():
             opens = f"s = zaluxhoni.open(sys.argv[1], '{mode}', mapped={mapped})"
             same(kept_by(f"s.close(); {opens}"), (0, {"a": 1}))
             same(kept_by(f"s.close(); {opens}; del s"), (0, {"a": 1}))
-    same(kept_by("s.close(); s = zaluxhoni.open(sys.argv[1], 'w', mapped=True); s['a'] = 2"), (0, {"a": 2}))
     same(kept_by("s.close(); s = zaluxhoni.create(1024); s['a'] = 2"), (0, {"a": 1}))
-    # what is no whole step is not saved
-    same(kept_by("t = s.transaction(); t.__enter__(); s['a'] = 2", "not saved", "transaction"), (0, {"a": 1}))
+    # a mapped file has what was changed, and a durable one what was committed
+    mapped = "s.close(); s = zaluxhoni.open(sys.argv[1], 'w', mapped=True); "
+    same(kept_by(mapped + "s['a'] = 2"), (0, {"a": 2}))
+    durable = "s.close(); s = zaluxhoni.open(sys.argv[1], 'w', durable=True); "
+    same(kept_by(durable + "s['a'] = 2; s.commit(); s['a'] = 3", *lost), (0, {"a": 2}))
+    same(kept_by(durable + "s['a'] = 2; s.commit()"), (0, {"a": 2}))
+    same(kept_by(durable + "s['a'] = 2\nwith s.transaction(): s['a'] = 3"), (0, {"a": 3}))
+    same(kept_by(durable + "s['a'] = 2; view = s.vector('v').view()", *lost), (0, {"a": 1}))
+    # what is no whole step is in no file
+    for opens in ("", mapped, durable):
+        same(kept_by(opens + "t = s.transaction(); t.__enter__(); s['a'] = 2", *lost), (0, {"a": 1}))
+        same(kept_by(opens + "t = s.transaction(); t.__enter__(); s['a'] = 2; s = None; t = None"), (0, {"a": 1}))
     same(kept_by("def go():\n with s.transaction():\n  s['a'] = 2; yield\ng = go(); next(g); s = None; del g"),
          (0, {"a": 1}))
+    # a transaction that is undone changes nothing
+    same(kept_by("try:\n with s.transaction(): s['a'] = 2; 1/0\nexcept ZeroDivisionError: pass"), (0, {"a": 1}))
     # a thread that still runs may be within a call
     same(kept_by("s.close()\ndef go():\n global s\n s = zaluxhoni.open(sys.argv[1], 'w'); s['a'] = 2; ready.set()\n"
                  " time.sleep(60)\nready = threading.Event()\nthreading.Thread(target=go, daemon=True).start()\n"
-                 "ready.wait()", "not saved", "thread"), (0, {"a": 1}))
+                 "ready.wait()", *lost), (0, {"a": 1}))
     same(kept_by("s.close()\ndef go():\n global s\n s = zaluxhoni.open(sys.argv[1], 'w'); s['a'] = 2\n"
-                 "t = threading.Thread(target=go); t.start(); t.join()"), (0, {"a": 2}))
+                 "t = threading.Thread(target=go); t.start(); t.join()", *lost), (0, {"a": 1}))
     shared = ("s.close(); s = zaluxhoni.open(sys.argv[1], 'w', check_same_thread=False)\ndef go():\n {}\n"
               "ready = threading.Event()\nthreading.Thread(target=go, daemon=True).start(); ready.wait()")
-    same(kept_by(shared.format("s['a'] = 2; ready.set(); time.sleep(60)")), (0, {"a": 2}))
-    same(kept_by(shared.format("s._lock.acquire(); s['a'] = 2; ready.set(); time.sleep(60)"), "not saved", "thread"),
-         (0, {"a": 1}))
-    # a forked child saves nothing, and says so if it changed something
-    same(kept_by("s['a'] = 2\nif os.fork() == 0: sys.exit(0)\nos.wait()"), (0, {"a": 2}))
-    same(kept_by("s['a'] = 2\nif os.fork() == 0: s['a'] = 3; sys.exit(0)\nos.wait()", "not saved", "parent"),
-         (0, {"a": 2}))
-    # a file that cannot be saved
-    same(kept_by("s['a'] = 2; os.rename(sys.argv[1], sys.argv[1] + '.old'); open(sys.argv[1], 'wb').write("
-                 "open(sys.argv[1] + '.old', 'rb').read()); os.unlink(sys.argv[1] + '.old')", "not saved", "replaced"),
-         (0, {"a": 1}))
+    same(kept_by(shared.format("s['a'] = 2; ready.set(); time.sleep(60)"), *lost), (0, {"a": 1}))
+    same(kept_by(shared.format("s._lock.acquire(); s['a'] = 2; ready.set(); time.sleep(60)"), *lost), (0, {"a": 1}))
+    # a forked child has nothing to say of its parent's file
+    same(kept_by("s['a'] = 2\nif os.fork() == 0: sys.exit(0)\nos.wait(); s.save()"), (0, {"a": 2}))
+    # files that were made, and never saved, are not left; warnings that are errors end no segment before the others
+    path = new("ended")
+    for words in ((), ("-W", "error")):
+        ran = subprocess.run([sys.executable, *words, "-c", "import sys, zaluxhoni\n" + "\n".join(
+            f"s{n} = zaluxhoni.open(sys.argv[1] + '{n}', 'x'); s{n}['a'] = 1" for n in range(3)), path],
+            capture_output=True, text=True)
+        same([os.path.exists(f"{path}{n}") for n in range(3)], [False] * 3)
+        same((ran.returncode, ran.stderr.count("is lost;"), "ResourceWarning" in ran.stderr), (0, 3, bool(words)))
 
 
 def the_end_of_a_block():

@@ -504,7 +504,7 @@ class Segment(_Named, _library.Block):
     """A segment, used as a mapping from names to objects, in the order of the names' bytes. `open`, `create` and `load`
     make one."""
     __slots__ = ("_file", "_handle", "_prefix", "_own_encoding", "_thread_number", "_may_ask", "_opener", "_thread",
-                 "_process", "_changes_at_fork", "_is_told", "_lock", "_changes", "_lent", "_any_name", "_was_lent",
+                 "_process", "_is_told", "_kept_changes", "_lock", "_changes", "_lent", "_any_name", "_was_lent",
                  "_path", "_is_mapped", "_is_durable", "_classes", "_steps", "_task", "_restored", "_torn", "_held",
                  "_was_refused", "growing", "encoding", "__weakref__")
     if TYPE_CHECKING:
@@ -521,9 +521,10 @@ class Segment(_Named, _library.Block):
         self._may_ask = ctypes.c_uint64(self._thread_number)
         self._opener = self._thread_number
         self._thread = threading.current_thread()
-        self._process, self._changes_at_fork, self._is_told = os.getpid(), 0, False
+        self._process, self._is_told = os.getpid(), False
         self._lock = threading.RLock()
-        self._changes = 0
+        # how often this package and the library changed the segment; the latter when its file had the same bytes
+        self._changes = self._kept_changes = 0
         self._lent: List[Tuple[Callable[[], Optional[Lease]], int]] = []
         self._steps: List[_library.Step] = []
         self._task: Any = None
@@ -774,6 +775,7 @@ class Segment(_Named, _library.Block):
         if not self._steps:
             self._task = _task_here()
         self._steps.append(before)
+        before.is_kept = self._kept_changes == self._handle.changes
         if self._task is not None:
             self._thread_number = self._may_ask.value = _NOBODY
 
@@ -839,6 +841,7 @@ class Segment(_Named, _library.Block):
         self._refuse_save()
         self._note_views()
         self._file_call(call, self._path)
+        self._kept_changes = self._handle.changes
 
     def _refuse_save(self) -> None:
         """Raises FileInStep in a transaction, since half a step is never saved, and NotUndone behind one."""
@@ -958,53 +961,49 @@ class Segment(_Named, _library.Block):
             return
         _ending[id(file)] = threading.get_ident()
         try:
-            if self._end_unclosed(True):
-                said = f"a segment of {self._path!r} was not closed; it was saved when it was collected"
-                warnings.warn(said, ResourceWarning, source=self)
+            self._say_unclosed()
         finally:
             _ending.pop(id(file), None)
             zx.zx_file_discard(file)
 
-    def _end_unclosed(self, is_alone: bool) -> bool:
-        """Saves and closes a segment that nobody closed, and returns True. If it cannot save, as in a transaction or
-        while another thread uses the segment, it says so on standard error and returns False. It also returns False if
-        there is nothing to save. `is_alone`: no other thread can use the segment."""
+    def _end_at_exit(self) -> None:
+        """Discards a segment that nobody closed, unless another thread may be in a call of it."""
+        is_here = not self._opener or self._thread is threading.current_thread() or not self._thread.is_alive()
+        said = self._unclosed()
+        if is_here and self._process == os.getpid() and self._lock.acquire(blocking=False):
+            try:
+                self._discard()
+            finally:
+                self._lock.release()
+        self._say(said)
+
+    def _say_unclosed(self) -> None:
+        self._say(self._unclosed())
+
+    def _unclosed(self) -> Tuple[str, bool]:
+        """Returns what is to be said about a segment that nobody closed, or "", and whether changes are lost."""
         mode = ctypes.c_uint32()
         zx.zx_mode(self._handle, mode)
-        if not self._file.held or mode.value != MODES["w"] or self._is_told:
-            return False
-        if self._process != os.getpid():
-            is_changed = self._changes != self._changes_at_fork
-            return is_changed and self._say_unsaved("it belongs to the parent of this process")
-        is_here = not self._opener or self._thread is threading.current_thread()
-        if not (is_alone or is_here) and self._thread.is_alive():
-            return self._say_unsaved("its thread still runs")
-        if not self._lock.acquire(blocking=False):
-            return self._say_unsaved("another thread uses it")
-        try:
-            if self._steps or self._torn:
-                return self._say_unsaved("a transaction is open" if self._steps else str(NotUndone()))
-            self._note_views()
-            code = zx.zx_file_save(self._file)
-            if code and code != FileUnsynced.code:
-                return self._say_unsaved(str(file_error_of(code, self._file, self._path)))
-            if is_alone or not self._is_lent():
-                zx.zx_file_discard(self._file)
-            return True
-        finally:
-            self._lock.release()
-
-    def _say_unsaved(self, reason: str) -> bool:
-        """Says on standard error, once, that the segment is not saved, and returns False."""
-        left = ("its file stays as it was committed last" if self._is_durable else
-                "its file has the changes so far" if self._is_mapped else "its file stays as it was saved last")
+        if not self._file.held or mode.value != MODES["w"] or self._process != os.getpid() or self._is_told:
+            return "", False
         self._is_told = True
-        try:
-            print(f"zaluxhoni: the segment of {self._path!r} was not closed, and is not saved, since {reason}; {left}",
-                  file=sys.stderr)
-        except Exception:
-            pass
-        return False
+        is_changed = self._kept_changes != self._handle.changes or self._was_lent
+        lost = ("what its open transaction changed" if self._steps and self._is_mapped else
+                "what was changed since its last commit" if self._is_durable and is_changed else
+                "what was changed since its last save" if not self._is_mapped and is_changed else "")
+        said = f"the segment of {self._path!r} was not closed"
+        return (f"{said}: {lost} is lost", True) if lost else (said, False)
+
+    def _say(self, said: Tuple[str, bool]) -> None:
+        """Says on standard error what is lost, and by a warning that a segment was not closed."""
+        text, is_lost = said
+        if is_lost:
+            try:
+                print(f"zaluxhoni: {text}; close() saves, and so does the end of a `with` block", file=sys.stderr)
+            except Exception:
+                pass
+        if text:
+            warnings.warn(text, ResourceWarning, source=self)
 
     def __reduce_ex__(self, _: Any) -> Any:
         raise WrongKind("a segment is not copied: load(segment.image()) makes another one")
@@ -1182,6 +1181,8 @@ class Transaction(_library.Block):
         try:
             segment._refuse_torn()
             segment._file_call(zx.zx_file_keep, segment._path, before)
+            if segment._is_durable and len(segment._steps) == 1:
+                segment._kept_changes = segment._handle.changes
         except Error:
             if before.copy.at or before.kept:
                 self._undo(before)
@@ -1199,6 +1200,8 @@ class Transaction(_library.Block):
             raise
         if segment._depth_of(before) < segment._torn:
             segment._torn = 0
+        if before.is_kept:
+            segment._kept_changes = segment._handle.changes
 
 
 def _task_here() -> Any:
@@ -1213,11 +1216,12 @@ def _task_here() -> Any:
 # ---- segments that nobody closed
 
 _opened: Any = weakref.WeakValueDictionary()
-"""The segments that were opened with the right to save their file, by their ids."""
+"""The segments that have a file, by their ids."""
 
 
 def note_opened(segment: Segment) -> None:
-    """Notes a segment that has a file to save, so that this is done at the end of the process if nobody closes it."""
+    """Notes a segment that has a file, so that it is discarded at the end of the process if nobody closes it."""
+    segment._kept_changes = segment._handle.changes
     if segment._file.held:
         _opened[id(segment)] = segment
 
@@ -1245,17 +1249,18 @@ def discard_lost() -> bool:
     return bool(lost)
 
 
-def _note_fork() -> None:
-    for segment in list(_opened.values()):
-        segment._changes_at_fork = segment._changes
-
-
 def _end_all() -> None:
+    errors: List[Exception] = []
     for segment in list(_opened.values()):
-        segment._end_unclosed(False)
+        try:
+            segment._end_at_exit()
+        except Exception as error:
+            # each is ended, also where warnings are errors
+            errors.append(error)
+    if errors:
+        raise errors[0]
 
 
-os.register_at_fork(after_in_child=_note_fork)
 atexit.register(_end_all)
 
 
@@ -1279,7 +1284,7 @@ def _locked(kind: Any) -> Any:
     for base in reversed(kind.__mro__[:-1]):
         for name, member in vars(base).items():
             if name in ("__init__", "__new__", "__del__", "__exit__", "__init_subclass__", "__class_getitem__",
-                        "__subclasshook__", "_end_unclosed", "_say_unsaved"):
+                        "__subclasshook__", "_end_at_exit", "_say_unclosed", "_unclosed", "_say", "_discard"):
                 continue
             if inspect.isfunction(member) and not inspect.isgeneratorfunction(member):
                 members[name] = _locks(member)

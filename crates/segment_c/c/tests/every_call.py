@@ -4,6 +4,7 @@ import asyncio
 import copy
 import ctypes
 import dataclasses
+import errno
 import gc
 import io
 import json
@@ -1639,6 +1640,38 @@ def files_that_fail():
     os.unlink(path_of("link"))
 
 
+def files_that_fail_to_grow():
+    """What the system refuses to an object that needs a longer file is the error of the file."""
+    signal.signal(signal.SIGXFSZ, signal.SIG_IGN)
+    limits = resource.getrlimit(resource.RLIMIT_FSIZE)
+    calls = (lambda s: s.construct("string", "s", "x" * 200000), lambda s: set_item(s, "s", "x" * 200000),
+             lambda s: s.strings("t").append("x" * 200000), lambda s: s["v"].extend(range(30000)),
+             lambda s: s.construct("map<i64,i64>", "m", {n: n for n in range(5000)}),
+             lambda s: s.records("r", "d").extend([0.5] * 30000), lambda s: s.grow(200000))
+    path = new("full")
+    with zaluxhoni.open(path, "x", size=4096) as s:
+        s["v"] = [1]
+    for call in calls:
+        s = zaluxhoni.open(path, "w", mapped=True)
+        resource.setrlimit(resource.RLIMIT_FSIZE, (8192, limits[1]))
+        try:
+            call(s)
+        except zaluxhoni.FileFault as error:
+            same((error.errno, error.strerror, error.filename, str(error)),
+                 (errno.EFBIG, os.strerror(errno.EFBIG), path, f"[Errno {errno.EFBIG}] {error.strerror}: {path!r}"))
+        else:
+            fails("no error")
+        finally:
+            resource.setrlimit(resource.RLIMIT_FSIZE, limits)
+        same((list(s["v"]), s.sanity()), ([1], True))
+        s.close()
+    for made in (zaluxhoni.FileReplaced(None, path), zaluxhoni.FileFault(errno.ENOSPC, path),
+                 zaluxhoni._errors._file_error(zaluxhoni.FileFault, errno.EACCES, path)):
+        with_key = zaluxhoni._errors.named(made, "key")
+        same((type(with_key), with_key.errno, with_key.strerror, with_key.filename),
+             (type(made), made.errno, made.strerror, path))
+
+
 def what_is_read_again():
     """An object that is read again and again is the one that has the name now."""
     s = create(4096)
@@ -2424,7 +2457,7 @@ for case in (an_anonymous_object, names, index_and_object_do_not_both_fit, array
              transactions,
              records, views, undone_beside_views, what_cannot_be_undone, saves_in_a_transaction, size_and_region, calls_of_c, what_is_refused, what_shows_a_class, one_thread, files,
              files_that_are_mapped, files_that_are_durable, what_is_refused_by_name, a_process_that_forks, a_relative_path, files_that_fail,
-             what_is_read_again, what_is_not_closed, the_end_of_the_process, the_end_of_a_block, errors_are_copied,
+             files_that_fail_to_grow, what_is_read_again, what_is_not_closed, the_end_of_the_process, the_end_of_a_block, errors_are_copied,
              none_is_no_name, records_of_other_packages, records_as_list_are_one, tasks_with_transactions,
              numbers_beyond_all, small_rules, no_space_says_more, a_wait_for_the_writer, the_module_as_program,
              segments_grow, storage_that_cannot_double, texts_that_stay_bytes, records_of_dataclasses,

@@ -363,8 +363,9 @@ def error_of(code: int, about: object = None) -> Error:
 
 
 def named(error: Error, key: object) -> Error:
-    """Returns the error, with the key of the object that it is about."""
-    if shown(key) in str(error):
+    """Returns the error, with the key of the object that it is about; the error of a file, which has `errno` and the
+    name of the file, as it is."""
+    if isinstance(error, FileError) or shown(key) in str(error):
         return error
     made = type(error)(f"{shown(key)}: {error}")
     made.__dict__.update(error.__dict__)

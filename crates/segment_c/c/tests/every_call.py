@@ -9,6 +9,7 @@ import gc
 import io
 import json
 import os
+import pathlib
 import pickle
 import resource
 import signal
@@ -1518,6 +1519,33 @@ def a_process_that_forks():
     s.close()
 
 
+def paths_of_each_type():
+    """A path is a text, bytes or an object that has one; its bytes need be no UTF-8."""
+    last = b"python-caf\xe9.seg"
+    given = os.path.join(os.fsencode(folder), last)
+    if os.path.lexists(given):
+        os.unlink(given)
+    for number, path in enumerate((given, os.fsdecode(given), pathlib.Path(os.fsdecode(given)))):
+        with zaluxhoni.open(path, size=1024) as s:
+            s["n"] = number
+            same((s["n"], repr(os.fspath(path)) in repr(s)), (number, True))
+        raises(zaluxhoni.FileExists, zaluxhoni.open, path, "x")
+        try:
+            zaluxhoni.open(path, "x")
+        except zaluxhoni.FileExists as error:
+            same((error.filename, str(error).isprintable()), (os.fspath(path), True))
+        with create(1024) as other:
+            try:
+                other.save_as(path)
+            except zaluxhoni.FileExists as error:
+                same(error.filename, os.fspath(path))
+    same(last in os.listdir(os.fsencode(folder)), True)
+    os.unlink(given)
+    for path in (None, 5, 5.0, ["a"], object()):
+        raises(zaluxhoni.WrongKind, zaluxhoni.open, path)
+        raises(zaluxhoni.WrongKind, create(1024).save_as, path)
+
+
 def a_relative_path():
     path, start = os.path.relpath(new("relative")), os.getcwd()
     s = zaluxhoni.open(path, size=1024)
@@ -1582,7 +1610,13 @@ def files_that_are_durable():
     same(os.path.exists(path + "-log"), False)
     with zaluxhoni.open(path, "r") as reader:
         same(reader["a"], 10)
-    raises(zaluxhoni.BadMode, zaluxhoni.open, path, "r", durable=True)
+    for mode in "rp":
+        try:
+            zaluxhoni.open(path, mode, durable=True)
+        except zaluxhoni.BadMode as error:
+            same((f"mode {mode!r}" in str(error), "durable" in str(error), path in str(error)), (True, True, False))
+        else:
+            fails("no BadMode")
     # the log of another file
     s = zaluxhoni.open(path, "w", durable=True)
     s["a"] = 11
@@ -2456,7 +2490,7 @@ for case in (an_anonymous_object, names, index_and_object_do_not_both_fit, array
              copies, a_list_as_list_is_one, threads_that_follow_each_other, one_segment_of_many_threads, groups,
              transactions,
              records, views, undone_beside_views, what_cannot_be_undone, saves_in_a_transaction, size_and_region, calls_of_c, what_is_refused, what_shows_a_class, one_thread, files,
-             files_that_are_mapped, files_that_are_durable, what_is_refused_by_name, a_process_that_forks, a_relative_path, files_that_fail,
+             files_that_are_mapped, files_that_are_durable, what_is_refused_by_name, a_process_that_forks, paths_of_each_type, a_relative_path, files_that_fail,
              files_that_fail_to_grow, what_is_read_again, what_is_not_closed, the_end_of_the_process, the_end_of_a_block, errors_are_copied,
              none_is_no_name, records_of_other_packages, records_as_list_are_one, tasks_with_transactions,
              numbers_beyond_all, small_rules, no_space_says_more, a_wait_for_the_writer, the_module_as_program,

@@ -18,6 +18,7 @@ docs/PYTHON.md."""
 from __future__ import annotations
 
 import ctypes
+import os
 import time
 from typing import Any, List, Optional
 
@@ -107,20 +108,24 @@ def open(path: Any, mode: str = "c", *, size: int = 65536, grow: bool = True, en
         "x"  creates a file that must not exist                   (create_only)
         "p"  opens a file that exists; changes are private        (open_copy_on_write)
 
-    A new segment has `size` bytes, and its file exists at once, with an empty segment. A segment becomes longer if
+    The path is a str, bytes or an os.PathLike. A new segment has `size` bytes, and its file exists at once, with an empty segment. A segment becomes longer if
     there is no space, unless `grow` is false. In the modes that save, the file belongs to this segment until it is
     closed: anyone else gets FileInUse, at once or after `timeout` seconds of waiting. With check_same_thread=False each
     thread may use the segment, and each call is alone on it. With `mapped` the segment lies in the file: opening copies
     nothing, each change is in the file at once, and `discard` reverts none; docs/C.md says what that costs. With
     `durable` changes are private until `commit`, or the end of a transaction, puts them into the log beside the file:
     whenever the process is killed or the power fails, the next opening finds the last commit that was done, or the one
-    under way. FileError, if the file is refused; BadImage, BadMode, BadSize."""
+    under way; the modes "r" and "p" find what was committed without it. FileError, if the file is refused; BadImage,
+    BadMode, BadSize."""
     if not isinstance(mode, str) or mode not in FILE_MODES:
         raise BadMode(f"no mode is {shown(mode)}")
+    if durable and mode in "rp":
+        raise BadMode(f"mode {mode!r} saves nothing, so it takes no durable=True: the modes 'w', 'c' and 'x' do")
     opened = new_segment(grow, encoding, check_same_thread)
     how = FILE_MODES[mode] + (_DURABLE if durable else _MAPPED if mapped else 0)
-    opened._path, opened._is_mapped, opened._is_durable = path, bool(mapped or durable), bool(durable)
     passed, bytes_wanted, ends = path_bytes(path), natural(size), _ends(timeout)
+    path = os.fspath(path)
+    opened._path, opened._is_mapped, opened._is_durable = path, bool(mapped or durable), bool(durable)
     note_file(opened)
     pause = 0.001
     while True:

@@ -853,7 +853,8 @@ class Segment(_Named, _library.Block):
 
     def save_as(self, path: Any) -> None:
         """Saves the image to a new file. FileExists, FileError."""
-        self._file_call(zx.zx_file_save_as, path, path_bytes(path), FILE_MODES["x"])
+        passed = path_bytes(path)
+        self._file_call(zx.zx_file_save_as, os.fspath(path), passed, FILE_MODES["x"])
 
     def close(self) -> None:
         """Saves the file, if it is open for writing, and closes the segment. After an error other than FileUnsynced it

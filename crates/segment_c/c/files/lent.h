@@ -98,6 +98,7 @@ zx_code zx_file_close_beside(zx_file *file, bool is_kept, const zx_memory *views
     zx_code code = ZX_DONE;
     file->error = 0;
     if (!held || !held->mapped || !is_own(held)) return ZX_CLOSED;
+    if (is_kept && held->steps > 0) return faulty(file, ZX_FILE_IN_STEP, EBUSY);
     struct mapping old = mapping_of(held);
     uint8_t *copy = copy_views(&old, views, count);
     if (!copy) return ZX_NO_MEMORY;

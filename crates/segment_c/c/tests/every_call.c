@@ -1447,6 +1447,7 @@ static void views_that_stay(uint32_t way) {
         at[0] = 8;
         IS(first_number(&file, v), 1);
         munmap(left.at, left.len);
+        if (round == 2) IS(zx_file_close_beside(&file, true, views, 2, &left), ZX_FILE_IN_STEP);
         if (round == 2) DONE(zx_file_keep(&file, &outer));
     }
     for (int is_kept = 1; is_kept >= 0; is_kept--) {

@@ -1510,6 +1510,38 @@ def a_process_that_forks():
 
     same(forked(add), "6")
     same(add(), 7)
+    # what a child changed would be nowhere: it reads what its parent had, and each call that changes it is refused
+    for is_shared in (False, True):
+        s = zaluxhoni.open(path, "w", check_same_thread=not is_shared)
+        s["v"], s["m"], s["t"], s["text"] = [1, 2], {1: 2}, ["a"], "text"
+        v, m, t, text, group, r = s["v"], s["m"], s["t"], s.string("text"), s.group("g/"), s.records("r", "d")
+        v[0], m[1], text[0], r.extend([1.0])
+        same(forked(lambda: (s["a"], v[0], list(v), m[1], dict(m), t[:], s["text"], r[:], len(s), s.mode)),
+             str((7, 1, [1, 2], 2, {1: 2}, ["a"], "text", [1.0], 6, "read")))
+        for call in (lambda: set_item(s, "a", 8), lambda: set_item(s, "new", 8), lambda: set_item(s, "v", [3]),
+                     lambda: v.append(1), lambda: set_item(v, 0, 5), lambda: set_item(v, slice(0, 1), [5]), v.pop, v.clear,
+                     lambda: v.extend([1]), lambda: v.assign([1]), lambda: v.insert(0, 1), lambda: delete_item(v, 0),
+                     lambda: v.reserve(100), v.trim, v.sort, lambda: set_item(m, 1, 3), lambda: set_item(m, 2, 3),
+                     lambda: delete_item(m, 1), m.clear, m.popitem, lambda: m.update({3: 4}), lambda: t.append("b"),
+                     lambda: set_item(t, 0, "b"), t.pop, lambda: t.extend(["b"]), lambda: t.insert(0, "b"), t.clear,
+                     lambda: t.assign([]), lambda: text.append("!"), lambda: set_item(text, 0, 65),
+                     lambda: text.assign("b"), lambda: r.append(2.0), lambda: set_item(r, 0, 2.0),
+                     lambda: delete_item(s, "a"), lambda: s.destroy("a"), lambda: s.pop("a"), s.popitem, s.clear,
+                     lambda: s.construct("i64", "b", 1), lambda: s.vector("b"), lambda: s.map("b"), lambda: s.string("b"),
+                     lambda: s.strings("b"), lambda: s.records("b", "d"), lambda: set_item(group, "b", 1),
+                     lambda: s.grow(64), s.shrink, s.zero_free, s.shrink_indexes, lambda: s.reserve_named(9),
+                     lambda: s.reserve_unique(9), lambda: s.relocate(1 << 20), s.save, s.commit, s.flush, s.close):
+            same(forked(lambda: name_of_error(call)), "FileForked")
+
+        def in_a_transaction():
+            with s.transaction():
+                v.append(1)
+        same(forked(lambda: name_of_error(in_a_transaction)), "FileForked")
+        same(forked(lambda: (v.view().readonly, name_of_error(lambda: set_item(v.view(), 0, 9)))), "(True, 'TypeError')")
+        s.discard()
+    # a segment without a file is the child's own
+    s = create(1024)
+    same(forked(lambda: (set_item(s, "a", 8), s["a"])[1]), "8")
     # of a mapped file a child has nothing
     s = zaluxhoni.open(path, "w", mapped=True)
     v = s.vector("v")

@@ -53,6 +53,14 @@ class Tile(NamedTuple):
     use: str
 
 
+_CHANGES = frozenset(id(getattr(zx, f"zx_{name}")) for name in (
+    "construct", "construct_vector", "construct_array", "construct_string", "construct_strings", "construct_map",
+    "find_or_construct", "find_or_construct_vector", "find_or_construct_string", "find_or_construct_strings",
+    "find_or_construct_map", "destroy", "set", "push", "pop", "insert", "assign", "extend", "erase", "reserve", "trim",
+    "clear", "assign_string", "append", "set_text", "push_text", "pop_text", "insert_text", "assign_texts", "map_put",
+    "map_erase", "write_elements", "put_pairs", "clear_map", "push_texts", "reserve_named", "reserve_unique",
+    "shrink_indexes", "zero_free", "relocate", "file_grow", "file_shrink"))
+"""The calls that change a segment, by their ids: functions of ctypes have no hash."""
 _Row = Tuple[str, int, int, int, Optional[int]]
 """A named object: its name, its kind, its number of scalars, its handle, and its value if it is a single scalar."""
 _INFO, _VALUE = struct.Struct("@IIIQQ"), struct.Struct("@IqQ")
@@ -503,7 +511,8 @@ def _scalar_for(values: Any, key: Any) -> str:
 class Segment(_Named, _library.Block):
     """A segment, used as a mapping from names to objects, in the order of the names' bytes. `open`, `create` and `load`
     make one."""
-    __slots__ = ("_file", "_handle", "_prefix", "_own_encoding", "_thread_number", "_may_ask", "_opener", "_thread",
+    __slots__ = ("_file", "_handle", "_prefix", "_own_encoding", "_thread_number", "_may_ask", "_opener", "_checked",
+                 "_thread",
                  "_process", "_is_told", "_kept_changes", "_lock", "_changes", "_lent", "_any_name", "_was_lent",
                  "_path", "_is_mapped", "_is_durable", "_classes", "_steps", "_task", "_restored", "_torn", "_held",
                  "_was_refused", "growing", "encoding", "__weakref__")
@@ -519,7 +528,7 @@ class Segment(_Named, _library.Block):
         # the number of the thread whose calls are not checked; 0: no call is checked; _NOBODY: each call is checked
         self._thread_number: int = _here.number if check_same_thread else 0
         self._may_ask = ctypes.c_uint64(self._thread_number)
-        self._opener = self._thread_number
+        self._opener = self._checked = self._thread_number
         self._thread = threading.current_thread()
         self._process, self._is_told = os.getpid(), False
         self._lock = threading.RLock()
@@ -556,7 +565,7 @@ class Segment(_Named, _library.Block):
     def _code(self, call: Any, *arguments: Any) -> int:
         """Returns the code of a library call."""
         if self._thread_number and _here.number != self._thread_number:
-            self._refuse_stranger()
+            self._refuse_stranger(call)
         code: int = call(self._handle, *arguments)
         if code == NO_SPACE and self.growing:
             return self._code_in_more_space(call, arguments)
@@ -568,12 +577,20 @@ class Segment(_Named, _library.Block):
         if code:
             raise self._error(code)
 
-    def _refuse_stranger(self) -> None:
-        """Raises WrongThread or WrongTask, unless the thread and the task may make calls."""
+    def _refuse_stranger(self, call: Any = None) -> None:
+        """Raises WrongThread or WrongTask, unless the thread and the task may make calls; FileForked, if the call would
+        change the segment of a file in a forked child, where nothing saves it."""
         if self._opener and _here.number != self._opener:
             raise WrongThread()
         if self._task is not None and self._task is not _task_here():
             raise WrongTask()
+        if self._is_forked and id(call) in _CHANGES:
+            raise FileForked(None, self._path)
+
+    @property
+    def _is_forked(self) -> bool:
+        """Whether this process was forked by the one that opened the file for writing."""
+        return self._process != os.getpid() and bool(self._file.held)
 
     def _error(self, code: int, about: object = None, arguments: Tuple[Any, ...] = (), count: int = 1) -> Error:
         """Returns the error of a call that failed."""
@@ -594,7 +611,7 @@ class Segment(_Named, _library.Block):
     def _file_call(self, call: Any, path: Any, *arguments: Any) -> None:
         """Makes a file call, and raises its error with the path."""
         if self._thread_number and _here.number != self._thread_number:
-            self._refuse_stranger()
+            self._refuse_stranger(call)
         code = call(self._file, *arguments)
         if code == _CLOSED:
             raise self._error(code)
@@ -712,10 +729,11 @@ class Segment(_Named, _library.Block):
 
     @property
     def mode(self) -> str:
-        """How the segment is open: "write", "read" or "copy on write"."""
+        """How the segment is open: "write", "read" or "copy on write". In a forked child, a file that its parent writes
+        is open for "read"."""
         mode = ctypes.c_uint32()
         self._call(zx.zx_mode, mode)
-        return ("write", "read", "copy on write")[mode.value]
+        return "read" if self._is_forked else ("write", "read", "copy on write")[mode.value]
 
     @property
     def size(self) -> int:
@@ -782,7 +800,7 @@ class Segment(_Named, _library.Block):
     def _end_step(self, before: _library.Step) -> None:
         self._steps = [step for step in self._steps if step is not before]
         if not self._steps:
-            self._thread_number = self._may_ask.value = self._opener
+            self._thread_number = self._may_ask.value = self._checked
             self._task = None
 
     def _depth_of(self, before: _library.Step) -> int:
@@ -1250,6 +1268,12 @@ def discard_lost() -> bool:
     return bool(lost)
 
 
+def _note_fork() -> None:
+    """Has each call of a forked child checked that concerns a file of its parent."""
+    for segment in list(_opened.values()):
+        segment._checked = segment._thread_number = segment._may_ask.value = _NOBODY
+
+
 def _end_all() -> None:
     errors: List[Exception] = []
     for segment in list(_opened.values()):
@@ -1262,6 +1286,7 @@ def _end_all() -> None:
         raise errors[0]
 
 
+os.register_at_fork(after_in_child=_note_fork)
 atexit.register(_end_all)
 
 

@@ -844,6 +844,29 @@ def copies():
             same(copied, value)
             same(type(copied) in (list, dict), True)
     same(copy.copy(s.string("x")), "text")
+    s.construct("i32[2]", "a", [3, 4])
+    same(copy.copy(s["a"]), [3, 4])
+    # records are a list too, and no other way to the same bytes
+    doubles, points, pairs = s.records("d", "d"), s.records("p", Point), s.records("q", "<hI")
+    doubles.extend([1.0, 2.0])
+    points.append((1.5, 2.5, 3))
+    pairs.append((1, 2))
+    for records_of, value in ((doubles, [1.0, 2.0]), (pairs, [(1, 2)])):
+        for copied in (copy.copy(records_of), copy.deepcopy(records_of), pickle.loads(pickle.dumps(records_of)),
+                       records_of.copy()):
+            same((copied, type(copied)), (value, list))
+            copied.append(0)
+            same(list(records_of), value)
+    same([(point.x, point.name) for point in pickle.loads(pickle.dumps(points))], [(1.5, 3)])
+    # what is the segment itself is refused, in words of this package
+    for refused in (s, s.group("g/"), s.transaction()):
+        for call in (copy.copy, copy.deepcopy, pickle.dumps):
+            try:
+                call(refused)
+            except TypeError as error:
+                same((type(error), "not copied" in str(error)), (zaluxhoni.WrongKind, True))
+            else:
+                fails("no error")
     same(s.is_open, True)
 
 
@@ -2090,6 +2113,17 @@ def records_as_list_are_one():
     raises(zaluxhoni.NoElement, ours.index, (1, 1.0))
     raises(zaluxhoni.OutOfRange, ours.pop)
     raises(zaluxhoni.WrongKind, ours.index, (1, 1.0), "a")
+    # a slice reads no more than its records
+    many, counts = s.records("many", "<hd"), []
+    many.extend(some * 50)
+    plain = zaluxhoni.Vector._memory
+    zaluxhoni.Vector._memory = lambda of, first, count: (counts.append((first, count)), plain(of, first, count))[1]
+    for index, first, count in ((slice(0, 10), 0, 10), (slice(990, None), 990, 10), (slice(5, 15, 3), 5, 10),
+                                (slice(20, 10, -4), 12, 9), (slice(7, 3), None, 0), (slice(-3, -1), 997, 2)):
+        counts.clear()
+        same(many[index], (some * 50)[index])
+        same(counts, [(10 * first, 10 * count)] if count else [])
+    zaluxhoni.Vector._memory = plain
     points = s.records("points", Point)
     points.assign([Point(1.5, 2.5, 3), (4.5, 5.5, 6)])
     same((Point(4.5, 5.5, 6) in points, points.index(Point(4.5, 5.5, 6)),

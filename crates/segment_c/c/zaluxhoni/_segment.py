@@ -1142,6 +1142,9 @@ class Group(_Named):
         behind = prefix[:-1] + bytes([prefix[-1] + 1])
         return self._segment._first_from(behind) - self._segment._first_from(prefix)
 
+    def __reduce_ex__(self, _: Any) -> Any:
+        raise WrongKind("a group is not copied: dict(group) has its names and objects")
+
     def __repr__(self) -> str:
         return f"<Group {self._prefix!r} of {self._segment!r}>"
 
@@ -1167,6 +1170,9 @@ class Transaction(_library.Block):
         self._segment, self._held = segment, segment._lock
         self._copies: List[_library.Step] = []
         self._was_refused = False
+
+    def __reduce_ex__(self, _: Any) -> Any:
+        raise WrongKind("a transaction is not copied: segment.transaction() makes another one")
 
     def _begin(self) -> Segment:
         segment, before = self._segment, _library.Step()

@@ -2324,6 +2324,68 @@ def no_space_says_more():
             fails("no NoSpace")
 
 
+def what_messages_say():
+    """A message names what it is about, and the figures that decide."""
+    s = create(1024)
+    s["v"], s["text"], s["n"] = [1], "text", 5
+    path, version = new("said"), bytearray(s.image())
+    version[8] = 9
+    bad = path_of("version")
+    with open(bad, "wb") as file:
+        file.write(version)
+    for error, call, *words in (
+            (zaluxhoni.BadName, lambda: s.construct("i64", "n" * 256, 1), "at most 255", "256"),
+            (zaluxhoni.BadName, lambda: set_item(s, "é" * 128, 1), "at most 255", "256"),
+            (zaluxhoni.BadName, lambda: s.info("n" * 300), "at most 255", "300"),
+            (zaluxhoni.BadName, lambda: set_item(s.group("g" * 200), "n" * 100, 1), "at most 255", "300"),
+            (zaluxhoni.BadName, lambda: set_item(s, "", 1), "1 to 255"),
+            (zaluxhoni.BadName, lambda: set_item(s, "a\n", 1), "control", "'a\\n'"),
+            (zaluxhoni.BadSize, lambda: create(160), "160", "176", "1073741824"),
+            (zaluxhoni.BadSize, lambda: create(2**30 + 16), "1073741840", "1073741824"),
+            (zaluxhoni.BadSize, lambda: zaluxhoni.open(path, "x", size=7), "7", "176", repr(path)),
+            (zaluxhoni.BadSize, lambda: zaluxhoni.load(s.image(), capacity=1025), "1025", "16"),
+            (zaluxhoni.ShortRegion, lambda: zaluxhoni.load(s.image(), capacity=512), "512", "1024"),
+            (zaluxhoni.ShortRegion, lambda: s.relocate(512), "512", "1024"),
+            (zaluxhoni.BadSize, lambda: s.relocate(1030), "1030"),
+            (zaluxhoni.BadGrowth, lambda: s.grow(33), "33", "32"),
+            (zaluxhoni.TooLarge, lambda: s.grow(2**30), "1024", "1073741824"),
+            (zaluxhoni.WrongKind, lambda: s.find("i64", "v"), "'v'", "vec<i64>"),
+            (zaluxhoni.WrongKind, lambda: s.vector("text"), "'text'", "string", "vec<i64>"),
+            (zaluxhoni.WrongKind, lambda: s.map("n"), "'n'", "i64", "map<i64,i64>"),
+            (zaluxhoni.UnsupportedVersion, lambda: zaluxhoni.load(bytes(version)), "version 9", "segment migrate"),
+            (zaluxhoni.UnsupportedVersion, lambda: zaluxhoni.check(bytes(version)), "version 9", "segment migrate"),
+            (zaluxhoni.UnsupportedVersion, lambda: zaluxhoni.open(bad, "r"), repr(bad), "segment migrate")):
+        try:
+            call()
+        except zaluxhoni.Error as raised:
+            same((type(raised), [word for word in words if word not in str(raised)], str(raised)),
+                 (error, [], str(raised)))
+        else:
+            fails("no error")
+    os.unlink(bad)
+    # of a log that belongs to another file the log is named, also where a link leads to the file
+    with zaluxhoni.open(path, "x", durable=True, size=1024) as s:
+        s.commit()
+    s = zaluxhoni.open(path, "w", durable=True)
+    s["n"] = 1
+    s.commit()
+    s.discard()
+    with create(1024) as other, open(path, "wb") as file:
+        other["other"] = 2
+        file.write(other.image())
+    os.symlink(os.path.basename(path), new("said-link"))
+    for given, log in ((path, f"{path}-log"), (os.fsencode(path), os.fsencode(f"{path}-log")),
+                       (path_of("said-link"), os.path.realpath(path) + "-log")):
+        try:
+            zaluxhoni.open(given, "w")
+        except zaluxhoni.FileLogForeign as error:
+            same((error.filename, repr(log) in str(error), pickle.loads(pickle.dumps(error)).filename), (log, True, log))
+        else:
+            fails("no FileLogForeign")
+    os.unlink(f"{path}-log")
+    os.unlink(path_of("said-link"))
+
+
 def a_wait_for_the_writer():
     path = new("waited")
     s = zaluxhoni.open(path, "x", size=1024)
@@ -2364,6 +2426,19 @@ def the_module_as_program():
                      f"v\tvec<i64>\t[{front}, ... 100 in all]\nunique('u64')\tu64\t9\n", ""))
     status, said, errors = run(path + "none")
     same((status, said, "zaluxhoni: " in errors, errors.count("\n")), (1, "", True, 1))
+    # a name is shown as it is, and a reader that ends first is no error
+    with zaluxhoni.open(new("listed"), "x") as s:
+        s["café"] = 1
+        for number in range(3000):
+            s[f"z{number}"] = "x" * 60
+    words = [sys.executable, "-W", "error", "-m", "zaluxhoni", path]
+    ran = subprocess.run(words, capture_output=True, env={**os.environ, "PYTHONUTF8": "1"})
+    same(ran.stdout.splitlines()[0], "café\ti64\t1".encode())
+    lists = subprocess.Popen(words, stdout=subprocess.PIPE, stderr=subprocess.PIPE)
+    same(lists.stdout.read(3), b"caf")
+    lists.stdout.close()
+    same((lists.stderr.read(), lists.wait()), (b"", -signal.SIGPIPE))
+    lists.stderr.close()
     same(run()[:2], (2, ""))
 
 
@@ -2559,7 +2634,7 @@ for case in (an_anonymous_object, names, index_and_object_do_not_both_fit, array
              files_that_are_mapped, files_that_are_durable, what_is_refused_by_name, a_process_that_forks, paths_of_each_type, a_relative_path, files_that_fail,
              files_that_fail_to_grow, what_is_read_again, what_is_not_closed, the_end_of_the_process, the_end_of_a_block, errors_are_copied,
              none_is_no_name, records_of_other_packages, records_as_list_are_one, tasks_with_transactions,
-             numbers_beyond_all, small_rules, no_space_says_more, a_wait_for_the_writer, the_module_as_program,
+             numbers_beyond_all, small_rules, no_space_says_more, what_messages_say, a_wait_for_the_writer, the_module_as_program,
              segments_grow, storage_that_cannot_double, texts_that_stay_bytes, records_of_dataclasses,
              threads_that_shorten, large_pages):
     try:

@@ -26,10 +26,11 @@ from . import _library
 from ._errors import (Absent, BadContainer, BadCount, BadFreeTree, BadGrowth, BadImage, BadImageSize, BadIndex, BadKey,
                       BadKind, BadMagic, BadMode, BadName, BadObject, BadReserved, BadSize, BadTag, BadValue, Closed,
                       DanglingLink, Error, Exists, FileError, FileExists, FileFault, FileForked, FileInStep, FileInUse,
-                      FileLogForeign, FileMissing, FileReplaced, FileTooLarge, FileUnsure, FileUnsynced, IsDevice,
+                      FileLogForeign, FileLogInTheWay, FileLogLeft, FileMissing, FileReplaced, FileTooLarge, FileUnsure, FileUnsynced, IsDevice,
                       IsFolder, IsPipe, Lent, NoElement, NoFile, NoMemory, NoSpace, NotFound, NotUndone, NullSlice, OrphanBlock,
                       OutOfRange, ReadOnly, SharedBlock, ShortBuffer, ShortRegion, TooLarge, Truncated,
-                      UnsupportedVersion, WrongKind, WrongTask, WrongThread, image_error_of, shown)
+                      UnsupportedVersion, WrongKind, WrongTask, WrongThread, bad_size, image_error_of, region_error,
+                      shown)
 from ._library import zx
 from ._objects import Array, Map, Object, String, Strings, Vector
 from ._records import Records
@@ -46,7 +47,7 @@ __all__ = [
     "BadImageSize", "BadReserved", "BadTag", "BadFreeTree", "BadIndex", "BadObject", "SharedBlock", "BadContainer",
     "OrphanBlock", "NoFile", "FileError", "FileInUse", "FileExists", "FileMissing", "DanglingLink", "IsFolder",
     "IsDevice", "IsPipe", "FileTooLarge", "FileFault", "FileReplaced", "FileUnsynced", "FileForked",
-    "FileLogForeign", "FileUnsure", "FileInStep",
+    "FileLogForeign", "FileLogInTheWay", "FileLogLeft", "FileUnsure", "FileInStep",
 ]
 
 
@@ -72,8 +73,10 @@ def create(size: int, *, grow: bool = True, encoding: Optional[str] = "utf-8",
            check_same_thread: bool = True) -> Segment:
     """Creates an empty segment of `size` bytes, without a file. It becomes longer if there is no space, unless `grow`
     is false. BadSize, NoMemory."""
-    made = new_segment(grow, encoding, check_same_thread)
-    made._call(zx.zx_create, natural(size))
+    made, wanted = new_segment(grow, encoding, check_same_thread), natural(size)
+    code = made._code(zx.zx_create, wanted)
+    if code:
+        raise bad_size(wanted) if code == BadSize.code else made._error(code)
     return made
 
 
@@ -92,8 +95,10 @@ def load(image: Any, mode: str = "w", *, capacity: Optional[int] = None, grow: b
     if code == ShortRegion.code and capacity is None:
         # an image that states more bytes than there are is rejected by that class
         raise image_error_of(Truncated.code, len(image))
+    if code in (ShortRegion.code, BadSize.code):
+        raise region_error(code, wanted, len(image))
     if code:
-        raise image_error_of(code, place.value)
+        raise image_error_of(code, place.value, None, image)
     return made
 
 
@@ -132,6 +137,8 @@ def open(path: Any, mode: str = "c", *, size: int = 65536, grow: bool = True, en
         try:
             opened._file_call(zx.zx_file_open, path, passed, how, bytes_wanted)
             break
+        except BadSize:
+            raise bad_size(bytes_wanted, path) from None
         except FileInUse:
             if discard_lost():
                 continue
@@ -166,7 +173,7 @@ def check(image: Any) -> None:
     image, place = _image_bytes(image), ctypes.c_uint64()
     code = zx.zx_explain(image, len(image), place)
     if code:
-        raise image_error_of(code, place.value)
+        raise image_error_of(code, place.value, None, image)
 
 
 # document and show the classes as those of this module

@@ -16,8 +16,9 @@ from typing import (TYPE_CHECKING, Any, Callable, Dict, ItemsView, Iterator, Key
                     NamedTuple, Optional, Tuple, ValuesView, overload)
 
 from . import _library
-from ._errors import (BadCount, BadKey, BadName, BadValue, Error, FileForked, FileInStep, FileUnsynced, Lent, NotFound,
-                      NotUndone, WrongKind, WrongTask, WrongThread, error_of, file_error_of, named, no_space, shown)
+from ._errors import (LONGEST_NAME, BadCount, BadGrowth, BadKey, BadName, BadValue, Error, FileForked, FileInStep,
+                      FileUnsynced, Lent, NotFound, NotUndone, TooLarge, WrongKind, WrongTask, WrongThread, error_of,
+                      file_error_of, named, no_space, region_error, shown, too_large)
 from ._library import BOOL, I32, I64, MAP, NO_SPACE, STRING, STRINGS, U8, U64, VECTOR, quick, zx
 from ._objects import SAME, Array, Lease, Left, Map, Object, _Pairs, String, Strings, Vector, bytes_in, object_of
 from ._records import Records
@@ -28,7 +29,6 @@ from ._values import (KINDS, MOST, TEXTS, Key, MapKind, ScalarKind, Texts, Vecto
 _ABSENT, _OUT_OF_RANGE, _CLOSED = 10, 8, 16
 _NO_OBJECT = (6, 17, 18)
 _AHEAD = 1024
-_LONGEST_NAME = 255
 _NOBODY = 2**64 - 1
 """The number of no thread."""
 MODES = {"w": 0, "r": 1, "p": 2}
@@ -540,7 +540,7 @@ class Segment(_Named, _library.Block):
         self._restored: Optional[Tuple[bytes, int, int]] = None
         # the lock of its `with` block is its own, so no other thread waits while the block runs
         self._held, self._was_refused = threading.RLock(), False
-        self._any_name = ctypes.create_string_buffer(_LONGEST_NAME)
+        self._any_name = ctypes.create_string_buffer(LONGEST_NAME)
         self._was_lent = False
         # how many transactions were open when one of them could not be undone; 0: each was undone
         self._torn = 0
@@ -650,13 +650,15 @@ class Segment(_Named, _library.Block):
     def _has(self, code: int, key: Any) -> bool:
         """Tells whether an object of the kind has the key. WrongKind."""
         found = self._code(zx.zx_find, raw_key(key), code, ctypes.c_uint64(), ctypes.c_uint32())
+        if found == WrongKind.code and isinstance(key, (str, bytes)):
+            raise WrongKind(f"{shown(key)} is a {self._info(key).kind}, and no {KINDS[code]}")
         if found and found != _ABSENT:
             raise self._error(found, key)
         return not found
 
     def _info(self, key: Any) -> Info:
-        told, name = _library.Info(), ctypes.create_string_buffer(_LONGEST_NAME)
-        code = self._code(zx.zx_tell, raw_key(key), told, name, _LONGEST_NAME)
+        told, name = _library.Info(), ctypes.create_string_buffer(LONGEST_NAME)
+        code = self._code(zx.zx_tell, raw_key(key), told, name, LONGEST_NAME)
         if code:
             raise self._error(code, key)
         return _info(told, name.raw)
@@ -671,7 +673,7 @@ class Segment(_Named, _library.Block):
 
     def _told_by(self, raw: _library.Key, key: Any) -> Optional[_library.Info]:
         told = _library.Info()
-        code = self._code(zx.zx_tell, raw, told, self._any_name, _LONGEST_NAME)
+        code = self._code(zx.zx_tell, raw, told, self._any_name, LONGEST_NAME)
         if code and code not in _NO_OBJECT:
             raise self._error(code, key)
         return None if code else told
@@ -761,7 +763,13 @@ class Segment(_Named, _library.Block):
         ReadOnly, Lent."""
         self._refuse_any_lent()
         self._changes += 1
-        self._file_call(zx.zx_file_grow, self._path, natural(extra))
+        added = natural(extra)
+        try:
+            self._file_call(zx.zx_file_grow, self._path, added)
+        except TooLarge:
+            raise too_large(self.size, added) from None
+        except BadGrowth:
+            raise BadGrowth(f"a segment grows by a multiple of 16, at least 32, and not by {added}") from None
 
     def shrink(self) -> None:
         """Cuts the free bytes off the end of the segment. ReadOnly, Lent."""
@@ -773,7 +781,10 @@ class Segment(_Named, _library.Block):
         """Moves the segment into a region of `capacity` bytes. BadSize, ShortRegion, NoMemory, Lent."""
         self._refuse_any_lent()
         self._changes += 1
-        self._call(zx.zx_relocate, natural(capacity))
+        wanted = natural(capacity)
+        code = self._code(zx.zx_relocate, wanted)
+        if code:
+            raise region_error(code, wanted, self.size) if self.is_open else self._error(code)
 
     def transaction(self) -> Transaction:
         """Makes all calls of a block one step. `with segment.transaction():` keeps all that the block did; if an
@@ -1067,7 +1078,7 @@ class Segment(_Named, _library.Block):
     def _names(self, index: int, many: int) -> List[_Row]:
         """Reads at most `many` named objects, from an index on."""
         infos, values = ctypes.create_string_buffer(many * _INFO.size), ctypes.create_string_buffer(many * _VALUE.size)
-        room, read = max(_LONGEST_NAME, 64 * many), ctypes.c_size_t()
+        room, read = max(LONGEST_NAME, 64 * many), ctypes.c_size_t()
         names = ctypes.create_string_buffer(room)
         self._call(zx.zx_read_names, index, infos, values, names, room, many, read)
         rows: List[_Row] = []

@@ -275,3 +275,5 @@ void zx_file_discard(zx_file *file) {
     if (file->held && file->held->mapped) (void)cut_mapped(file, file->held);
     let_go(file);
 }
+
+#include "files/lent.h"

@@ -49,6 +49,20 @@ zx_code zx_read_names(zx_segment *segment, uint64_t first, zx_info *infos, zx_va
    its length; ZX_CLOSED, if the step keeps none, or is that of a mapped or a durable file. */
 zx_code zx_step_image(zx_step *before, uint8_t *image, size_t room, uint64_t *len);
 
+/* ---- views that outlast a file that is mapped, for the Python package */
+
+/* Undoes a step of a mapped or durable file as zx_file_undo does, if views of its elements stay: the segment moves to
+   other addresses, and at the old ones the views find a copy of the bytes that they showed. `views` has the address and
+   the bytes of each. `left` gets the memory with the copy, which the caller unmaps (munmap) when the last view is gone;
+   it is unchanged if the mapping stays. Errors: those of zx_file_undo; ZX_NO_MEMORY; ZX_CLOSED, also if the step is not
+   of a mapped file. */
+zx_code zx_file_undo_beside(zx_file *file, zx_step *before, const zx_memory *views, size_t count, zx_memory *left);
+
+/* Closes a mapped or durable file as zx_file_close does, or as zx_file_discard does if not `is_kept`, and leaves views a
+   copy of their bytes, as zx_file_undo_beside. Errors: those of zx_file_close; ZX_NO_MEMORY; ZX_CLOSED, also if the file
+   is not mapped. After each of them except ZX_FILE_UNSYNCED the file is open, and `left` is unchanged. */
+zx_code zx_file_close_beside(zx_file *file, bool is_kept, const zx_memory *views, size_t count, zx_memory *left);
+
 /* ---- objects of CPython, for the Python package */
 
 /* Returns a number of this thread: 1 or more, and never that of another thread, even after this one ends. */

@@ -7,6 +7,7 @@
 #include <stdio.h>
 #include <stdlib.h>
 #include <string.h>
+#include <sys/mman.h>
 
 static const char *folder;
 static int checks, wrong;
@@ -1407,6 +1408,64 @@ static int64_t first_number(zx_file *file, zx_key key) {
     return got.number;
 }
 
+/* A view of the vector of a key: where its numbers are. */
+static zx_memory numbers_of(zx_file *file, zx_key key) {
+    zx_elements found;
+    DONE(zx_view_mut(&file->segment, &key, &found));
+    zx_memory view = { zx_elements_mut(&file->segment, &found), found.count * 8 };
+    return view;
+}
+
+/* Views of a mapped or durable file stay behind a transaction that is undone, and behind the file. */
+static void views_that_stay(uint32_t way) {
+    char path[1024];
+    zx_file file = ZX_CLOSED_FILE;
+    zx_key v = zx_name("v"), w = zx_name("w");
+    zx_step before = ZX_NO_STEP;
+    zx_memory left = { NULL, 0 }, none = { NULL, 0 };
+    int64_t numbers[2] = { 1, 2 }, *at;
+    snprintf(path, sizeof path, "%s/c-views.seg", folder);
+    remove(path);
+    IS(zx_file_undo_beside(&file, &before, &none, 1, &left), ZX_CLOSED);
+    IS(zx_file_close_beside(&file, true, &none, 1, &left), ZX_CLOSED);
+    DONE(zx_file_open(&file, path, ZX_CREATE_ONLY | way, 4096));
+    IS(made_vector(&file.segment, v, zx_i64s(numbers, 2)), 192);
+    IS(zx_file_undo_beside(&file, &before, &none, 1, &left), ZX_CLOSED);
+    for (int round = 0; round < 3; round++) {
+        zx_step outer = ZX_NO_STEP;
+        if (round == 2) DONE(zx_file_begin(&file, &outer));
+        DONE(zx_file_begin(&file, &before));
+        if (round == 1) DONE(zx_file_grow(&file, 65536));
+        IS(made_vector(&file.segment, w, zx_i64s(numbers, 1)) > 0, true);
+        zx_memory views[2] = { numbers_of(&file, v), numbers_of(&file, w) };
+        at = (void *)views[0].at;
+        at[0] = 7;
+        DONE(zx_file_undo_beside(&file, &before, views, 2, &left));
+        IS(at[0], 7);
+        IS(*(int64_t *)(void *)views[1].at, 1);
+        IS(first_number(&file, v), 1);
+        at[0] = 8;
+        IS(first_number(&file, v), 1);
+        munmap(left.at, left.len);
+        if (round == 2) IS(zx_file_close_beside(&file, true, views, 2, &left), ZX_FILE_IN_STEP);
+        if (round == 2) DONE(zx_file_keep(&file, &outer));
+    }
+    for (int is_kept = 1; is_kept >= 0; is_kept--) {
+        zx_memory view = numbers_of(&file, v);
+        at = (void *)view.at;
+        if (!is_kept) DONE(zx_file_flush(&file));
+        at[0] = 10 + is_kept;
+        DONE(zx_file_close_beside(&file, is_kept, &view, 1, &left));
+        IS(at[0], 10 + is_kept);
+        at[0] = 12;
+        munmap(left.at, left.len);
+        DONE(zx_file_open(&file, path, ZX_OPEN_ONLY | way, 0));
+        // what a mapping changed is in the file, and nothing discards it
+        IS(first_number(&file, v), is_kept || way == ZX_DURABLE ? 11 : 10);
+    }
+    zx_file_discard(&file);
+}
+
 /* A transaction of a segment in memory that keeps pages, or, of a short one, a copy. */
 static void steps_in_memory(uint64_t size) {
     zx_file file = ZX_CLOSED_FILE;
@@ -1738,6 +1797,8 @@ int main(int count, char **arguments) {
     durable_files();
     steps_in_memory(4096);
     steps_in_memory(1 << 20);
+    views_that_stay(ZX_MAPPED);
+    views_that_stay(ZX_DURABLE);
     bytes_of_logs();
     extended();
     rows_of_numbers();

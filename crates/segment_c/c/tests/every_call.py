@@ -4,9 +4,12 @@ import asyncio
 import copy
 import ctypes
 import dataclasses
+import errno
 import gc
+import io
 import json
 import os
+import pathlib
 import pickle
 import resource
 import signal
@@ -841,6 +844,29 @@ def copies():
             same(copied, value)
             same(type(copied) in (list, dict), True)
     same(copy.copy(s.string("x")), "text")
+    s.construct("i32[2]", "a", [3, 4])
+    same(copy.copy(s["a"]), [3, 4])
+    # records are a list too, and no other way to the same bytes
+    doubles, points, pairs = s.records("d", "d"), s.records("p", Point), s.records("q", "<hI")
+    doubles.extend([1.0, 2.0])
+    points.append((1.5, 2.5, 3))
+    pairs.append((1, 2))
+    for records_of, value in ((doubles, [1.0, 2.0]), (pairs, [(1, 2)])):
+        for copied in (copy.copy(records_of), copy.deepcopy(records_of), pickle.loads(pickle.dumps(records_of)),
+                       records_of.copy()):
+            same((copied, type(copied)), (value, list))
+            copied.append(0)
+            same(list(records_of), value)
+    same([(point.x, point.name) for point in pickle.loads(pickle.dumps(points))], [(1.5, 3)])
+    # what is the segment itself is refused, in words of this package
+    for refused in (s, s.group("g/"), s.transaction()):
+        for call in (copy.copy, copy.deepcopy, pickle.dumps):
+            try:
+                call(refused)
+            except TypeError as error:
+                same((type(error), "not copied" in str(error)), (zaluxhoni.WrongKind, True))
+            else:
+                fails("no error")
     same(s.is_open, True)
 
 
@@ -1154,15 +1180,197 @@ def views():
         view = None
         same(on_a_thread(lambda: s["v"].append(3)), None)
         same(s["v"].copy(), [1, 2, 3])
-    s = zaluxhoni.open(path, "w", mapped=True)
-    view = s["v"].view()
-    view[0] = 9
-    raises(zaluxhoni.Lent, s.close)
-    raises(zaluxhoni.Lent, s.discard)
-    del view
-    s.close()
+    # of a file that is mapped too, whose elements they do not change any more
+    for mode, end, named in (("w", "close", {"mapped": True}), ("w", "discard", {"mapped": True}),
+                             ("r", "close", {"mapped": True}), ("p", "discard", {"mapped": True}),
+                             ("w", "close", {"durable": True}), ("w", "discard", {"durable": True})):
+        with zaluxhoni.open(path, "w") as s:
+            s["v"], s["long"] = [7, 8], range(2000)
+        s = zaluxhoni.open(path, mode, **named)
+        view, long = s["v"].view(), s["long"].view()
+        if mode != "r":
+            view[0] = 9
+        getattr(s, end)()
+        same((s.is_open, view.tolist(), long[:3].tolist(), long[-1]), (False, [7 if mode == "r" else 9, 8], [0, 1, 2],
+                                                                      1999))
+        with zaluxhoni.open(path, "w") as s:
+            is_kept = mode == "w" and (end == "close" or "mapped" in named)
+            same(s["v"].copy(), [9 if is_kept else 7, 8])
+            s["v"] = [3, 4]
+        if mode == "w":
+            view[1] = 10
+        del s
+        gc.collect()
+        same((view.tolist()[0], long[1999]), (7 if mode == "r" else 9, 1999))
+        del view, long
+
+
+def undone_beside_views():
+    """A transaction that an exception leaves is undone, whatever views exist: they keep the bytes that they showed."""
+    class Broken(Exception):
+        pass
+
+    for named in ({}, {"mapped": True}, {"durable": True}):
+        for is_first in (True, False):
+            for size in (4096, 1 << 20):
+                undone_beside_a_view(named, is_first, size, Broken)
+    # the view of a function whose frame is in the traceback
+    for named in ({}, {"mapped": True}, {"durable": True}):
+        path = new("undone")
+        with zaluxhoni.open(path, "x", size=4096) as s:
+            s["v"], s["n"] = [1, 2], 1
+
+        def negates(s):
+            view = s["v"].view()
+            view[0], s["n"] = -1, 2
+            raise Broken(view[0])
+
+        s = zaluxhoni.open(path, "w", **named)
+        try:
+            with s.transaction():
+                negates(s)
+        except Broken as error:
+            kept = error
+        same((kept.args, s["n"], s["v"].copy()), ((-1,), 1, [1, 2]))
+        s.close()
+        with zaluxhoni.open(path, "r") as s:
+            same((s["n"], s["v"].copy()), (1, [1, 2]))
+
+
+def undone_beside_a_view(named, is_first, size, broken):
+    path = new("undone")
+    with zaluxhoni.open(path, "x", size=size, **named) as s:
+        s["v"], s["n"] = [1, 2], 1
+        s.flush()
+        view = s["v"].view() if is_first else None
+        inner = made = None
+        try:
+            with s.transaction():
+                s["n"] = 2
+                try:
+                    with s.transaction():
+                        inner = s["v"].view()
+                        inner[1] = 3
+                        s["new"] = [5] * 3
+                        made = s["new"].view()
+                        raise broken(1)
+                except broken:
+                    same((s["n"], s["v"].copy(), "new" in s, inner.tolist(), made.tolist()),
+                         (2, [1, 2], False, [1, 3], [5] * 3))
+                view = view or s["v"].view()
+                s["v"][0] = 4
+                s["more"] = range(100)
+                raise broken(2)
+        except broken as error:
+            same(error.args, (2,))
+        same((s["n"], s["v"].copy(), list(s), inner.tolist(), made.tolist()),
+             (1, [1, 2], ["n", "v"], [1, 3], [5] * 3))
+        # a view is one of the segment no more, whose elements move again
+        view[0], made[0] = 9, 9
+        same((s["v"].copy(), s.sanity()), ([1, 2], True))
+        s["v"].extend(range(1000))
+        with s.transaction():
+            s["n"] = 6
+        same((s["n"], len(s["v"]), view[0], inner[1]), (6, 1002, 9, 3))
+    same((view[0], inner[1], made[1]), (9, 3, 5))
     with zaluxhoni.open(path, "r") as s:
-        same(s["v"].copy(), [9, 8])
+        same((s["n"], len(s["v"]), list(s)), (6, 1002, ["n", "v"]))
+
+
+def what_cannot_be_undone():
+    """If memory is refused for the undo of a transaction, nothing of it is saved."""
+    zx = zaluxhoni._library.zx
+    undo = zx.zx_file_undo
+    for named in ({}, {"mapped": True}, {"durable": True}):
+        for size in (4096, 1 << 20):
+            path = new("torn")
+            with zaluxhoni.open(path, "x", size=size) as s:
+                s["n"] = 1
+            s = zaluxhoni.open(path, "w", **named)
+
+            def fails_to_undo():
+                zx.zx_file_undo = lambda *_: zaluxhoni.NoMemory.code
+                try:
+                    with s.transaction():
+                        s["n"] = 2
+                        raise KeyError
+                finally:
+                    zx.zx_file_undo = undo
+
+            # an outer transaction undoes what an inner one could not, and is not kept otherwise
+            def outer(is_kept):
+                with s.transaction():
+                    s["n"] = 3
+                    try:
+                        fails_to_undo()
+                    except zaluxhoni.NoMemory:
+                        if not is_kept:
+                            raise
+            raises(zaluxhoni.NoMemory, outer, False)
+            same(s["n"], 1)
+            raises(zaluxhoni.NotUndone, outer, True)
+            same(s["n"], 1)
+            s.flush()
+            raises(zaluxhoni.NoMemory, fails_to_undo)
+            for call in (s.save, s.flush, s.commit, s.close):
+                raises(zaluxhoni.NotUndone, call)
+            same((s.is_open, len(s._steps)), (True, 0))
+            s.discard()
+            with zaluxhoni.open(path, "r") as s:
+                same(s["n"], 1)
+
+            def in_block():
+                with zaluxhoni.open(path, "w", **named) as opened:
+                    nonlocal s
+                    s = opened
+                    try:
+                        fails_to_undo()
+                    except zaluxhoni.NoMemory:
+                        pass
+            raises(zaluxhoni.NotUndone, in_block)
+            same(s.is_open, False)
+            with zaluxhoni.open(path, "r") as s:
+                same(s["n"], 1)
+
+
+def saves_in_a_transaction():
+    """Half a step is never saved, however the file is opened."""
+    for named in ({}, {"mapped": True}, {"durable": True}):
+        path = new("step")
+        with zaluxhoni.open(path, "x", size=4096, **named) as s:
+            s["n"] = 1
+            s.flush()
+            with s.transaction():
+                s["n"] = 2
+                with s.transaction():
+                    for call in (s.save, s.commit, s.flush, s.close):
+                        raises(zaluxhoni.FileInStep, call)
+                same(s.is_open, True)
+                with zaluxhoni.open(path, "r") as reader:
+                    same(reader["n"], 1)
+                s.save_as(new("step-copy"))
+            with zaluxhoni.open(path_of("step-copy"), "r") as copied:
+                same(copied["n"], 2)
+            s["n"] = 3
+            try:
+                with s.transaction():
+                    s["n"] = 4
+                    s.close()
+            except zaluxhoni.FileInStep as error:
+                same((s["n"], error.filename), (3, path))
+        with zaluxhoni.open(path, "r") as s:
+            same(s["n"], 3)
+        # a discard is no save
+        s = zaluxhoni.open(path, "w", **named)
+        with s.transaction():
+            s["n"] = 5
+            s.discard()
+        with zaluxhoni.open(path, "r") as s:
+            same(s["n"], 3)
+    s = create(1024)
+    with s.transaction():
+        raises(zaluxhoni.FileInStep, s.close)
+    s.close()
 
 
 def raises_bare(error, call):
@@ -1325,6 +1533,38 @@ def a_process_that_forks():
 
     same(forked(add), "6")
     same(add(), 7)
+    # what a child changed would be nowhere: it reads what its parent had, and each call that changes it is refused
+    for is_shared in (False, True):
+        s = zaluxhoni.open(path, "w", check_same_thread=not is_shared)
+        s["v"], s["m"], s["t"], s["text"] = [1, 2], {1: 2}, ["a"], "text"
+        v, m, t, text, group, r = s["v"], s["m"], s["t"], s.string("text"), s.group("g/"), s.records("r", "d")
+        v[0], m[1], text[0], r.extend([1.0])
+        same(forked(lambda: (s["a"], v[0], list(v), m[1], dict(m), t[:], s["text"], r[:], len(s), s.mode)),
+             str((7, 1, [1, 2], 2, {1: 2}, ["a"], "text", [1.0], 6, "read")))
+        for call in (lambda: set_item(s, "a", 8), lambda: set_item(s, "new", 8), lambda: set_item(s, "v", [3]),
+                     lambda: v.append(1), lambda: set_item(v, 0, 5), lambda: set_item(v, slice(0, 1), [5]), v.pop, v.clear,
+                     lambda: v.extend([1]), lambda: v.assign([1]), lambda: v.insert(0, 1), lambda: delete_item(v, 0),
+                     lambda: v.reserve(100), v.trim, v.sort, lambda: set_item(m, 1, 3), lambda: set_item(m, 2, 3),
+                     lambda: delete_item(m, 1), m.clear, m.popitem, lambda: m.update({3: 4}), lambda: t.append("b"),
+                     lambda: set_item(t, 0, "b"), t.pop, lambda: t.extend(["b"]), lambda: t.insert(0, "b"), t.clear,
+                     lambda: t.assign([]), lambda: text.append("!"), lambda: set_item(text, 0, 65),
+                     lambda: text.assign("b"), lambda: r.append(2.0), lambda: set_item(r, 0, 2.0),
+                     lambda: delete_item(s, "a"), lambda: s.destroy("a"), lambda: s.pop("a"), s.popitem, s.clear,
+                     lambda: s.construct("i64", "b", 1), lambda: s.vector("b"), lambda: s.map("b"), lambda: s.string("b"),
+                     lambda: s.strings("b"), lambda: s.records("b", "d"), lambda: set_item(group, "b", 1),
+                     lambda: s.grow(64), s.shrink, s.zero_free, s.shrink_indexes, lambda: s.reserve_named(9),
+                     lambda: s.reserve_unique(9), lambda: s.relocate(1 << 20), s.save, s.commit, s.flush, s.close):
+            same(forked(lambda: name_of_error(call)), "FileForked")
+
+        def in_a_transaction():
+            with s.transaction():
+                v.append(1)
+        same(forked(lambda: name_of_error(in_a_transaction)), "FileForked")
+        same(forked(lambda: (v.view().readonly, name_of_error(lambda: set_item(v.view(), 0, 9)))), "(True, 'TypeError')")
+        s.discard()
+    # a segment without a file is the child's own
+    s = create(1024)
+    same(forked(lambda: (set_item(s, "a", 8), s["a"])[1]), "8")
     # of a mapped file a child has nothing
     s = zaluxhoni.open(path, "w", mapped=True)
     v = s.vector("v")
@@ -1332,6 +1572,33 @@ def a_process_that_forks():
                  s.flush, lambda: s.grow(64)):
         same(forked(lambda: name_of_error(call)), "FileForked")
     s.close()
+
+
+def paths_of_each_type():
+    """A path is a text, bytes or an object that has one; its bytes need be no UTF-8."""
+    last = b"python-caf\xe9.seg"
+    given = os.path.join(os.fsencode(folder), last)
+    if os.path.lexists(given):
+        os.unlink(given)
+    for number, path in enumerate((given, os.fsdecode(given), pathlib.Path(os.fsdecode(given)))):
+        with zaluxhoni.open(path, size=1024) as s:
+            s["n"] = number
+            same((s["n"], repr(os.fspath(path)) in repr(s)), (number, True))
+        raises(zaluxhoni.FileExists, zaluxhoni.open, path, "x")
+        try:
+            zaluxhoni.open(path, "x")
+        except zaluxhoni.FileExists as error:
+            same((error.filename, str(error).isprintable()), (os.fspath(path), True))
+        with create(1024) as other:
+            try:
+                other.save_as(path)
+            except zaluxhoni.FileExists as error:
+                same(error.filename, os.fspath(path))
+    same(last in os.listdir(os.fsencode(folder)), True)
+    os.unlink(given)
+    for path in (None, 5, 5.0, ["a"], object()):
+        raises(zaluxhoni.WrongKind, zaluxhoni.open, path)
+        raises(zaluxhoni.WrongKind, create(1024).save_as, path)
 
 
 def a_relative_path():
@@ -1379,10 +1646,9 @@ def files_that_are_durable():
     view = s["numbers"].view()
     with s.transaction():
         view[0] = 10
-    raises(zaluxhoni.Lent, s.close)
-    view.release()
-    view = None
+    view[1] = 20
     s.discard()
+    same(view.tolist(), [10, 20, 3])
     # what reads, and what maps otherwise, finds the commits; only who may write ends the log
     with zaluxhoni.open(path, "r") as reader:
         same((reader["a"], list(reader["numbers"])), (7, [10, 2, 3]))
@@ -1399,7 +1665,13 @@ def files_that_are_durable():
     same(os.path.exists(path + "-log"), False)
     with zaluxhoni.open(path, "r") as reader:
         same(reader["a"], 10)
-    raises(zaluxhoni.BadMode, zaluxhoni.open, path, "r", durable=True)
+    for mode in "rp":
+        try:
+            zaluxhoni.open(path, mode, durable=True)
+        except zaluxhoni.BadMode as error:
+            same((f"mode {mode!r}" in str(error), "durable" in str(error), path in str(error)), (True, True, False))
+        else:
+            fails("no BadMode")
     # the log of another file
     s = zaluxhoni.open(path, "w", durable=True)
     s["a"] = 11
@@ -1455,6 +1727,38 @@ def files_that_fail():
     with zaluxhoni.open(path, "r") as s:
         same(s["a"], 6)
     os.unlink(path_of("link"))
+
+
+def files_that_fail_to_grow():
+    """What the system refuses to an object that needs a longer file is the error of the file."""
+    signal.signal(signal.SIGXFSZ, signal.SIG_IGN)
+    limits = resource.getrlimit(resource.RLIMIT_FSIZE)
+    calls = (lambda s: s.construct("string", "s", "x" * 200000), lambda s: set_item(s, "s", "x" * 200000),
+             lambda s: s.strings("t").append("x" * 200000), lambda s: s["v"].extend(range(30000)),
+             lambda s: s.construct("map<i64,i64>", "m", {n: n for n in range(5000)}),
+             lambda s: s.records("r", "d").extend([0.5] * 30000), lambda s: s.grow(200000))
+    path = new("full")
+    with zaluxhoni.open(path, "x", size=4096) as s:
+        s["v"] = [1]
+    for call in calls:
+        s = zaluxhoni.open(path, "w", mapped=True)
+        resource.setrlimit(resource.RLIMIT_FSIZE, (8192, limits[1]))
+        try:
+            call(s)
+        except zaluxhoni.FileFault as error:
+            same((error.errno, error.strerror, error.filename, str(error)),
+                 (errno.EFBIG, os.strerror(errno.EFBIG), path, f"[Errno {errno.EFBIG}] {error.strerror}: {path!r}"))
+        else:
+            fails("no error")
+        finally:
+            resource.setrlimit(resource.RLIMIT_FSIZE, limits)
+        same((list(s["v"]), s.sanity()), ([1], True))
+        s.close()
+    for made in (zaluxhoni.FileReplaced(None, path), zaluxhoni.FileFault(errno.ENOSPC, path),
+                 zaluxhoni._errors._file_error(zaluxhoni.FileFault, errno.EACCES, path)):
+        with_key = zaluxhoni._errors.named(made, "key")
+        same((type(with_key), with_key.errno, with_key.strerror, with_key.filename),
+             (type(made), made.errno, made.strerror, path))
 
 
 def what_is_read_again():
@@ -1521,17 +1825,33 @@ def what_is_read_again():
 
 
 def what_is_not_closed():
-    """A segment that is collected while it is open is saved, and a warning says so."""
+    """A segment that is collected while it is open is discarded, and a warning names its file."""
     path = new("dropped")
-    with warnings.catch_warnings(record=True) as caught:
-        warnings.simplefilter("always")
-        s = zaluxhoni.open(path, "c", size=1024)
-        s["a"] = 5
-        del s
+    for named, kept in (({}, 1), ({"durable": True}, 1), ({"mapped": True}, 2)):
+        with zaluxhoni.open(path, "c", size=1024) as s:
+            s["a"] = 1
+        for change, word in ((1, None), (2, " is lost")):
+            before, sys.stderr = sys.stderr, io.StringIO()
+            with warnings.catch_warnings(record=True) as caught:
+                warnings.simplefilter("always")
+                s = zaluxhoni.open(path, "c", **named)
+                if change != 1:
+                    s["a"] = change
+                del s
+                gc.collect()
+            said, sys.stderr = sys.stderr.getvalue(), before
+            same([(warning.category, repr(path) in str(warning.message)) for warning in caught],
+                 [(ResourceWarning, True)])
+            is_lost = word is not None and "mapped" not in named
+            same((path in said, " is lost" in said, said.count("\n")), (is_lost, is_lost, int(is_lost)))
+        with zaluxhoni.open(path, "r") as s:
+            same(s["a"], kept)
+    # a file that it made and never saved is removed
+    with warnings.catch_warnings():
+        warnings.simplefilter("ignore")
+        zaluxhoni.open(new("made"), "x")
         gc.collect()
-    same([warning.category for warning in caught], [ResourceWarning])
-    with zaluxhoni.open(path, "r") as s:
-        same(s["a"], 5)
+    same(os.path.exists(path_of("made")), False)
 
 
 def program(text, *arguments):
@@ -1556,12 +1876,17 @@ def kept_by(text, *words):
 
 
 def the_end_of_the_process():
-    same(kept_by("s['a'] = 2"), (0, {"a": 2}))
-    same(kept_by("s['a'] = 2; sys.exit(0)"), (0, {"a": 2}))
-    same(kept_by("s['a'] = 2; sys.exit(3)"), (3, {"a": 2}))
-    same(kept_by("s['a'] = 2; raise KeyError", "KeyError"), (1, {"a": 2}))
-    same(kept_by("view = s.vector('v').view(); s['a'] = 2"), (0, {"a": 2, "v": []}))
-    same(kept_by("s['v'] = [1]; view = s['v'].view(); view[0] = 7"), (0, {"a": 1, "v": [7]}))
+    """What nobody saved is not saved, and a line says so if something changed."""
+    lost = "not closed", "is lost"
+    same(kept_by("s['a'] = 2", *lost), (0, {"a": 1}))
+    same(kept_by("s['a'] = 2; sys.exit(0)", *lost), (0, {"a": 1}))
+    same(kept_by("s['a'] = 2; sys.exit(3)", *lost), (3, {"a": 1}))
+    same(kept_by("s['a'] = 2; raise KeyError", "KeyError", *lost), (1, {"a": 1}))
+    same(kept_by("view = s.vector('v').view(); s['a'] = 2", *lost), (0, {"a": 1}))
+    same(kept_by("s['v'] = [1]; s.save(); view = s['v'].view(); view[0] = 7", *lost), (0, {"a": 1, "v": [1]}))
+    same(kept_by("s['a'] = 2; s.save(); s['a'] = 3", *lost), (0, {"a": 2}))
+    same(kept_by("s['a'] = 2; s.save()"), (0, {"a": 2}))
+    same(kept_by("s['a']"), (0, {"a": 1}))
     # what its program has saved or discarded is not touched
     same(kept_by("s['a'] = 2; s.discard()"), (0, {"a": 1}))
     same(kept_by("s['a'] = 2; s.close()"), (0, {"a": 2}))
@@ -1571,31 +1896,43 @@ def the_end_of_the_process():
             opens = f"s = zaluxhoni.open(sys.argv[1], '{mode}', mapped={mapped})"
             same(kept_by(f"s.close(); {opens}"), (0, {"a": 1}))
             same(kept_by(f"s.close(); {opens}; del s"), (0, {"a": 1}))
-    same(kept_by("s.close(); s = zaluxhoni.open(sys.argv[1], 'w', mapped=True); s['a'] = 2"), (0, {"a": 2}))
     same(kept_by("s.close(); s = zaluxhoni.create(1024); s['a'] = 2"), (0, {"a": 1}))
-    # what is no whole step is not saved
-    same(kept_by("t = s.transaction(); t.__enter__(); s['a'] = 2", "not saved", "transaction"), (0, {"a": 1}))
+    # a mapped file has what was changed, and a durable one what was committed
+    mapped = "s.close(); s = zaluxhoni.open(sys.argv[1], 'w', mapped=True); "
+    same(kept_by(mapped + "s['a'] = 2"), (0, {"a": 2}))
+    durable = "s.close(); s = zaluxhoni.open(sys.argv[1], 'w', durable=True); "
+    same(kept_by(durable + "s['a'] = 2; s.commit(); s['a'] = 3", *lost), (0, {"a": 2}))
+    same(kept_by(durable + "s['a'] = 2; s.commit()"), (0, {"a": 2}))
+    same(kept_by(durable + "s['a'] = 2\nwith s.transaction(): s['a'] = 3"), (0, {"a": 3}))
+    same(kept_by(durable + "s['a'] = 2; view = s.vector('v').view()", *lost), (0, {"a": 1}))
+    # what is no whole step is in no file
+    for opens in ("", mapped, durable):
+        same(kept_by(opens + "t = s.transaction(); t.__enter__(); s['a'] = 2", *lost), (0, {"a": 1}))
+        same(kept_by(opens + "t = s.transaction(); t.__enter__(); s['a'] = 2; s = None; t = None"), (0, {"a": 1}))
     same(kept_by("def go():\n with s.transaction():\n  s['a'] = 2; yield\ng = go(); next(g); s = None; del g"),
          (0, {"a": 1}))
+    # a transaction that is undone changes nothing
+    same(kept_by("try:\n with s.transaction(): s['a'] = 2; 1/0\nexcept ZeroDivisionError: pass"), (0, {"a": 1}))
     # a thread that still runs may be within a call
     same(kept_by("s.close()\ndef go():\n global s\n s = zaluxhoni.open(sys.argv[1], 'w'); s['a'] = 2; ready.set()\n"
                  " time.sleep(60)\nready = threading.Event()\nthreading.Thread(target=go, daemon=True).start()\n"
-                 "ready.wait()", "not saved", "thread"), (0, {"a": 1}))
+                 "ready.wait()", *lost), (0, {"a": 1}))
     same(kept_by("s.close()\ndef go():\n global s\n s = zaluxhoni.open(sys.argv[1], 'w'); s['a'] = 2\n"
-                 "t = threading.Thread(target=go); t.start(); t.join()"), (0, {"a": 2}))
+                 "t = threading.Thread(target=go); t.start(); t.join()", *lost), (0, {"a": 1}))
     shared = ("s.close(); s = zaluxhoni.open(sys.argv[1], 'w', check_same_thread=False)\ndef go():\n {}\n"
               "ready = threading.Event()\nthreading.Thread(target=go, daemon=True).start(); ready.wait()")
-    same(kept_by(shared.format("s['a'] = 2; ready.set(); time.sleep(60)")), (0, {"a": 2}))
-    same(kept_by(shared.format("s._lock.acquire(); s['a'] = 2; ready.set(); time.sleep(60)"), "not saved", "thread"),
-         (0, {"a": 1}))
-    # a forked child saves nothing, and says so if it changed something
-    same(kept_by("s['a'] = 2\nif os.fork() == 0: sys.exit(0)\nos.wait()"), (0, {"a": 2}))
-    same(kept_by("s['a'] = 2\nif os.fork() == 0: s['a'] = 3; sys.exit(0)\nos.wait()", "not saved", "parent"),
-         (0, {"a": 2}))
-    # a file that cannot be saved
-    same(kept_by("s['a'] = 2; os.rename(sys.argv[1], sys.argv[1] + '.old'); open(sys.argv[1], 'wb').write("
-                 "open(sys.argv[1] + '.old', 'rb').read()); os.unlink(sys.argv[1] + '.old')", "not saved", "replaced"),
-         (0, {"a": 1}))
+    same(kept_by(shared.format("s['a'] = 2; ready.set(); time.sleep(60)"), *lost), (0, {"a": 1}))
+    same(kept_by(shared.format("s._lock.acquire(); s['a'] = 2; ready.set(); time.sleep(60)"), *lost), (0, {"a": 1}))
+    # a forked child has nothing to say of its parent's file
+    same(kept_by("s['a'] = 2\nif os.fork() == 0: sys.exit(0)\nos.wait(); s.save()"), (0, {"a": 2}))
+    # files that were made, and never saved, are not left; warnings that are errors end no segment before the others
+    path = new("ended")
+    for words in ((), ("-W", "error")):
+        ran = subprocess.run([sys.executable, *words, "-c", "import sys, zaluxhoni\n" + "\n".join(
+            f"s{n} = zaluxhoni.open(sys.argv[1] + '{n}', 'x'); s{n}['a'] = 1" for n in range(3)), path],
+            capture_output=True, text=True)
+        same([os.path.exists(f"{path}{n}") for n in range(3)], [False] * 3)
+        same((ran.returncode, ran.stderr.count("is lost;"), "ResourceWarning" in ran.stderr), (0, 3, bool(words)))
 
 
 def the_end_of_a_block():
@@ -1776,6 +2113,17 @@ def records_as_list_are_one():
     raises(zaluxhoni.NoElement, ours.index, (1, 1.0))
     raises(zaluxhoni.OutOfRange, ours.pop)
     raises(zaluxhoni.WrongKind, ours.index, (1, 1.0), "a")
+    # a slice reads no more than its records
+    many, counts = s.records("many", "<hd"), []
+    many.extend(some * 50)
+    plain = zaluxhoni.Vector._memory
+    zaluxhoni.Vector._memory = lambda of, first, count: (counts.append((first, count)), plain(of, first, count))[1]
+    for index, first, count in ((slice(0, 10), 0, 10), (slice(990, None), 990, 10), (slice(5, 15, 3), 5, 10),
+                                (slice(20, 10, -4), 12, 9), (slice(7, 3), None, 0), (slice(-3, -1), 997, 2)):
+        counts.clear()
+        same(many[index], (some * 50)[index])
+        same(counts, [(10 * first, 10 * count)] if count else [])
+    zaluxhoni.Vector._memory = plain
     points = s.records("points", Point)
     points.assign([Point(1.5, 2.5, 3), (4.5, 5.5, 6)])
     same((Point(4.5, 5.5, 6) in points, points.index(Point(4.5, 5.5, 6)),
@@ -1976,6 +2324,68 @@ def no_space_says_more():
             fails("no NoSpace")
 
 
+def what_messages_say():
+    """A message names what it is about, and the figures that decide."""
+    s = create(1024)
+    s["v"], s["text"], s["n"] = [1], "text", 5
+    path, version = new("said"), bytearray(s.image())
+    version[8] = 9
+    bad = path_of("version")
+    with open(bad, "wb") as file:
+        file.write(version)
+    for error, call, *words in (
+            (zaluxhoni.BadName, lambda: s.construct("i64", "n" * 256, 1), "at most 255", "256"),
+            (zaluxhoni.BadName, lambda: set_item(s, "é" * 128, 1), "at most 255", "256"),
+            (zaluxhoni.BadName, lambda: s.info("n" * 300), "at most 255", "300"),
+            (zaluxhoni.BadName, lambda: set_item(s.group("g" * 200), "n" * 100, 1), "at most 255", "300"),
+            (zaluxhoni.BadName, lambda: set_item(s, "", 1), "1 to 255"),
+            (zaluxhoni.BadName, lambda: set_item(s, "a\n", 1), "control", "'a\\n'"),
+            (zaluxhoni.BadSize, lambda: create(160), "160", "176", "1073741824"),
+            (zaluxhoni.BadSize, lambda: create(2**30 + 16), "1073741840", "1073741824"),
+            (zaluxhoni.BadSize, lambda: zaluxhoni.open(path, "x", size=7), "7", "176", repr(path)),
+            (zaluxhoni.BadSize, lambda: zaluxhoni.load(s.image(), capacity=1025), "1025", "16"),
+            (zaluxhoni.ShortRegion, lambda: zaluxhoni.load(s.image(), capacity=512), "512", "1024"),
+            (zaluxhoni.ShortRegion, lambda: s.relocate(512), "512", "1024"),
+            (zaluxhoni.BadSize, lambda: s.relocate(1030), "1030"),
+            (zaluxhoni.BadGrowth, lambda: s.grow(33), "33", "32"),
+            (zaluxhoni.TooLarge, lambda: s.grow(2**30), "1024", "1073741824"),
+            (zaluxhoni.WrongKind, lambda: s.find("i64", "v"), "'v'", "vec<i64>"),
+            (zaluxhoni.WrongKind, lambda: s.vector("text"), "'text'", "string", "vec<i64>"),
+            (zaluxhoni.WrongKind, lambda: s.map("n"), "'n'", "i64", "map<i64,i64>"),
+            (zaluxhoni.UnsupportedVersion, lambda: zaluxhoni.load(bytes(version)), "version 9", "segment migrate"),
+            (zaluxhoni.UnsupportedVersion, lambda: zaluxhoni.check(bytes(version)), "version 9", "segment migrate"),
+            (zaluxhoni.UnsupportedVersion, lambda: zaluxhoni.open(bad, "r"), repr(bad), "segment migrate")):
+        try:
+            call()
+        except zaluxhoni.Error as raised:
+            same((type(raised), [word for word in words if word not in str(raised)], str(raised)),
+                 (error, [], str(raised)))
+        else:
+            fails("no error")
+    os.unlink(bad)
+    # of a log that belongs to another file the log is named, also where a link leads to the file
+    with zaluxhoni.open(path, "x", durable=True, size=1024) as s:
+        s.commit()
+    s = zaluxhoni.open(path, "w", durable=True)
+    s["n"] = 1
+    s.commit()
+    s.discard()
+    with create(1024) as other, open(path, "wb") as file:
+        other["other"] = 2
+        file.write(other.image())
+    os.symlink(os.path.basename(path), new("said-link"))
+    for given, log in ((path, f"{path}-log"), (os.fsencode(path), os.fsencode(f"{path}-log")),
+                       (path_of("said-link"), os.path.realpath(path) + "-log")):
+        try:
+            zaluxhoni.open(given, "w")
+        except zaluxhoni.FileLogForeign as error:
+            same((error.filename, repr(log) in str(error), pickle.loads(pickle.dumps(error)).filename), (log, True, log))
+        else:
+            fails("no FileLogForeign")
+    os.unlink(f"{path}-log")
+    os.unlink(path_of("said-link"))
+
+
 def a_wait_for_the_writer():
     path = new("waited")
     s = zaluxhoni.open(path, "x", size=1024)
@@ -2016,6 +2426,19 @@ def the_module_as_program():
                      f"v\tvec<i64>\t[{front}, ... 100 in all]\nunique('u64')\tu64\t9\n", ""))
     status, said, errors = run(path + "none")
     same((status, said, "zaluxhoni: " in errors, errors.count("\n")), (1, "", True, 1))
+    # a name is shown as it is, and a reader that ends first is no error
+    with zaluxhoni.open(new("listed"), "x") as s:
+        s["café"] = 1
+        for number in range(3000):
+            s[f"z{number}"] = "x" * 60
+    words = [sys.executable, "-W", "error", "-m", "zaluxhoni", path]
+    ran = subprocess.run(words, capture_output=True, env={**os.environ, "PYTHONUTF8": "1"})
+    same(ran.stdout.splitlines()[0], "café\ti64\t1".encode())
+    lists = subprocess.Popen(words, stdout=subprocess.PIPE, stderr=subprocess.PIPE)
+    same(lists.stdout.read(3), b"caf")
+    lists.stdout.close()
+    same((lists.stderr.read(), lists.wait()), (b"", -signal.SIGPIPE))
+    lists.stderr.close()
     same(run()[:2], (2, ""))
 
 
@@ -2207,11 +2630,11 @@ for case in (an_anonymous_object, names, index_and_object_do_not_both_fit, array
              refusals_have_names,
              copies, a_list_as_list_is_one, threads_that_follow_each_other, one_segment_of_many_threads, groups,
              transactions,
-             records, views, size_and_region, calls_of_c, what_is_refused, what_shows_a_class, one_thread, files,
-             files_that_are_mapped, files_that_are_durable, what_is_refused_by_name, a_process_that_forks, a_relative_path, files_that_fail,
-             what_is_read_again, what_is_not_closed, the_end_of_the_process, the_end_of_a_block, errors_are_copied,
+             records, views, undone_beside_views, what_cannot_be_undone, saves_in_a_transaction, size_and_region, calls_of_c, what_is_refused, what_shows_a_class, one_thread, files,
+             files_that_are_mapped, files_that_are_durable, what_is_refused_by_name, a_process_that_forks, paths_of_each_type, a_relative_path, files_that_fail,
+             files_that_fail_to_grow, what_is_read_again, what_is_not_closed, the_end_of_the_process, the_end_of_a_block, errors_are_copied,
              none_is_no_name, records_of_other_packages, records_as_list_are_one, tasks_with_transactions,
-             numbers_beyond_all, small_rules, no_space_says_more, a_wait_for_the_writer, the_module_as_program,
+             numbers_beyond_all, small_rules, no_space_says_more, what_messages_say, a_wait_for_the_writer, the_module_as_program,
              segments_grow, storage_that_cannot_double, texts_that_stay_bytes, records_of_dataclasses,
              threads_that_shorten, large_pages):
     try:

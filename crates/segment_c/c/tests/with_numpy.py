@@ -1,6 +1,8 @@
 """Arrays of numpy as elements, and elements as arrays of numpy. It is run by a Python that has numpy."""
 import array
+import os
 import sys
+import tempfile
 
 import numpy
 
@@ -149,6 +151,42 @@ def arrays_without_a_copy():
     same(int(a[10]), 7)
 
 
+def arrays_that_stay():
+    """An array that is in scope at the end of a block, or of a transaction that failed, keeps its numbers."""
+    path = os.path.join(tempfile.mkdtemp(), "arrays.seg")
+    for named in ({}, {"mapped": True}, {"durable": True}):
+        with zaluxhoni.open(path, "c", **named) as s:
+            s["v"], s["n"] = [1, 2, 3], 1
+            s.records("weights", "d").assign([0.5, 1.5])
+            a, weights = numpy.asarray(s["v"]), numpy.asarray(s.records("weights", "d"))
+            weights *= 2
+        same((a.tolist(), weights.tolist()), ([1, 2, 3], [1.0, 3.0]))
+        a[0] = 7
+        try:
+            with zaluxhoni.open(path, "w", **named) as s:
+                a = numpy.asarray(s["v"])
+                s["n"] = 2 if named != {"mapped": True} else 1
+                raise KeyError("n")
+        except KeyError as error:
+            same(error.args, ("n",))
+        same(a.tolist(), [1, 2, 3])
+        with zaluxhoni.open(path, "w", **named) as s:
+            same((s["n"], list(s.records("weights", "d"))), (1, [1.0, 3.0]))
+            weights = numpy.asarray(s.records("weights", "d"))
+            try:
+                with s.transaction():
+                    s["n"], other = 3, numpy.asarray(s.records("weights", "d"))
+                    other[0] = -1
+                    raise ValueError("negative")
+            except ValueError as error:
+                same(error.args, ("negative",))
+            same((s["n"], list(s.records("weights", "d")), weights.tolist()), (1, [1.0, 3.0], [-1.0, 3.0]))
+            s.records("weights", "d").append(4.0)
+            other[1] = 5
+        with zaluxhoni.open(path, "r") as s:
+            same((s["n"], list(s.records("weights", "d"))), (1, [1.0, 3.0, 4.0]))
+
+
 def records():
     s = zaluxhoni.create(65536)
     form = numpy.dtype([("x", "<f8"), ("n", "<i2")])
@@ -191,7 +229,7 @@ def records():
     raises(zaluxhoni.WrongKind, points.append, "x")
 
 
-for case in (arrays_as_elements, elements_as_arrays, arrays_without_a_copy, records):
+for case in (arrays_as_elements, elements_as_arrays, arrays_without_a_copy, arrays_that_stay, records):
     try:
         case()
     except Exception as error:

@@ -18,6 +18,7 @@ docs/PYTHON.md."""
 from __future__ import annotations
 
 import ctypes
+import os
 import time
 from typing import Any, List, Optional
 
@@ -25,10 +26,11 @@ from . import _library
 from ._errors import (Absent, BadContainer, BadCount, BadFreeTree, BadGrowth, BadImage, BadImageSize, BadIndex, BadKey,
                       BadKind, BadMagic, BadMode, BadName, BadObject, BadReserved, BadSize, BadTag, BadValue, Closed,
                       DanglingLink, Error, Exists, FileError, FileExists, FileFault, FileForked, FileInStep, FileInUse,
-                      FileLogForeign, FileMissing, FileReplaced, FileTooLarge, FileUnsure, FileUnsynced, IsDevice,
-                      IsFolder, IsPipe, Lent, NoElement, NoFile, NoMemory, NoSpace, NotFound, NullSlice, OrphanBlock,
+                      FileLogForeign, FileLogInTheWay, FileLogLeft, FileMissing, FileReplaced, FileTooLarge, FileUnsure, FileUnsynced, IsDevice,
+                      IsFolder, IsPipe, Lent, NoElement, NoFile, NoMemory, NoSpace, NotFound, NotUndone, NullSlice, OrphanBlock,
                       OutOfRange, ReadOnly, SharedBlock, ShortBuffer, ShortRegion, TooLarge, Truncated,
-                      UnsupportedVersion, WrongKind, WrongTask, WrongThread, image_error_of, shown)
+                      UnsupportedVersion, WrongKind, WrongTask, WrongThread, bad_size, image_error_of, region_error,
+                      shown)
 from ._library import zx
 from ._objects import Array, Map, Object, String, Strings, Vector
 from ._records import Records
@@ -41,11 +43,11 @@ __all__ = [
     "Object", "Array", "Vector", "Strings", "String", "Map", "Records", "Info", "Tile", "Error", "ReadOnly", "Exists",
     "NotFound", "WrongKind", "OutOfRange", "NoSpace", "Absent", "NoElement", "Closed", "BadKey", "BadName", "BadKind",
     "BadValue", "BadCount", "BadSize", "BadMode", "ShortBuffer", "NullSlice", "NoMemory", "ShortRegion", "BadGrowth",
-    "TooLarge", "Lent", "WrongThread", "WrongTask", "BadImage", "Truncated", "BadMagic", "UnsupportedVersion",
+    "TooLarge", "Lent", "NotUndone", "WrongThread", "WrongTask", "BadImage", "Truncated", "BadMagic", "UnsupportedVersion",
     "BadImageSize", "BadReserved", "BadTag", "BadFreeTree", "BadIndex", "BadObject", "SharedBlock", "BadContainer",
     "OrphanBlock", "NoFile", "FileError", "FileInUse", "FileExists", "FileMissing", "DanglingLink", "IsFolder",
     "IsDevice", "IsPipe", "FileTooLarge", "FileFault", "FileReplaced", "FileUnsynced", "FileForked",
-    "FileLogForeign", "FileUnsure", "FileInStep",
+    "FileLogForeign", "FileLogInTheWay", "FileLogLeft", "FileUnsure", "FileInStep",
 ]
 
 
@@ -71,8 +73,10 @@ def create(size: int, *, grow: bool = True, encoding: Optional[str] = "utf-8",
            check_same_thread: bool = True) -> Segment:
     """Creates an empty segment of `size` bytes, without a file. It becomes longer if there is no space, unless `grow`
     is false. BadSize, NoMemory."""
-    made = new_segment(grow, encoding, check_same_thread)
-    made._call(zx.zx_create, natural(size))
+    made, wanted = new_segment(grow, encoding, check_same_thread), natural(size)
+    code = made._code(zx.zx_create, wanted)
+    if code:
+        raise bad_size(wanted) if code == BadSize.code else made._error(code)
     return made
 
 
@@ -91,8 +95,10 @@ def load(image: Any, mode: str = "w", *, capacity: Optional[int] = None, grow: b
     if code == ShortRegion.code and capacity is None:
         # an image that states more bytes than there are is rejected by that class
         raise image_error_of(Truncated.code, len(image))
+    if code in (ShortRegion.code, BadSize.code):
+        raise region_error(code, wanted, len(image))
     if code:
-        raise image_error_of(code, place.value)
+        raise image_error_of(code, place.value, None, image)
     return made
 
 
@@ -107,26 +113,32 @@ def open(path: Any, mode: str = "c", *, size: int = 65536, grow: bool = True, en
         "x"  creates a file that must not exist                   (create_only)
         "p"  opens a file that exists; changes are private        (open_copy_on_write)
 
-    A new segment has `size` bytes, and its file exists at once, with an empty segment. A segment becomes longer if
+    The path is a str, bytes or an os.PathLike. A new segment has `size` bytes, and its file exists at once, with an empty segment. A segment becomes longer if
     there is no space, unless `grow` is false. In the modes that save, the file belongs to this segment until it is
     closed: anyone else gets FileInUse, at once or after `timeout` seconds of waiting. With check_same_thread=False each
     thread may use the segment, and each call is alone on it. With `mapped` the segment lies in the file: opening copies
     nothing, each change is in the file at once, and `discard` reverts none; docs/C.md says what that costs. With
     `durable` changes are private until `commit`, or the end of a transaction, puts them into the log beside the file:
     whenever the process is killed or the power fails, the next opening finds the last commit that was done, or the one
-    under way. FileError, if the file is refused; BadImage, BadMode, BadSize."""
+    under way; the modes "r" and "p" find what was committed without it. FileError, if the file is refused; BadImage,
+    BadMode, BadSize."""
     if not isinstance(mode, str) or mode not in FILE_MODES:
         raise BadMode(f"no mode is {shown(mode)}")
+    if durable and mode in "rp":
+        raise BadMode(f"mode {mode!r} saves nothing, so it takes no durable=True: the modes 'w', 'c' and 'x' do")
     opened = new_segment(grow, encoding, check_same_thread)
     how = FILE_MODES[mode] + (_DURABLE if durable else _MAPPED if mapped else 0)
-    opened._path, opened._is_mapped, opened._is_durable = path, bool(mapped or durable), bool(durable)
     passed, bytes_wanted, ends = path_bytes(path), natural(size), _ends(timeout)
+    path = os.fspath(path)
+    opened._path, opened._is_mapped, opened._is_durable = path, bool(mapped or durable), bool(durable)
     note_file(opened)
     pause = 0.001
     while True:
         try:
             opened._file_call(zx.zx_file_open, path, passed, how, bytes_wanted)
             break
+        except BadSize:
+            raise bad_size(bytes_wanted, path) from None
         except FileInUse:
             if discard_lost():
                 continue
@@ -161,7 +173,7 @@ def check(image: Any) -> None:
     image, place = _image_bytes(image), ctypes.c_uint64()
     code = zx.zx_explain(image, len(image), place)
     if code:
-        raise image_error_of(code, place.value)
+        raise image_error_of(code, place.value, None, image)
 
 
 # document and show the classes as those of this module

@@ -3,6 +3,7 @@ value. Objects without a name have the key that finds them."""
 from __future__ import annotations
 
 import io
+import signal
 import sys
 from typing import Iterator, List, Union
 
@@ -40,4 +41,6 @@ def main(paths: List[str]) -> int:
 
 
 if __name__ == "__main__":
+    # who reads the list may end before it does
+    signal.signal(signal.SIGPIPE, signal.SIG_DFL)
     sys.exit(main(sys.argv[1:]))

@@ -8,6 +8,7 @@ from typing import Any, Dict, Optional, Tuple, Type
 from . import _library
 
 _LONGEST_SHOWN = 120
+LONGEST_NAME, LARGEST = 255, 2**30
 
 
 def shown(value: object) -> str:
@@ -290,8 +291,19 @@ class FileForked(FileError, PermissionError):
 
 
 class FileLogForeign(FileError):
-    """The log beside the file belongs to another file, or is damaged."""
+    """The log beside the file belongs to another file, or is damaged. `filename` is the path of the log, as in each
+    error about a log."""
     code, number = 54, errno.ESTALE
+
+
+class FileLogInTheWay(FileError):
+    """A file that is no log has the name of the log. It is left alone, and nothing is committed: move or remove it."""
+    code, number = 57, errno.EEXIST
+
+
+class FileLogLeft(FileError):
+    """The log of a file that is gone lies beside the name of a new file. Put that file back, or remove the log."""
+    code, number = 58, errno.EEXIST
 
 
 class FileUnsure(FileError):
@@ -316,6 +328,14 @@ class WrongTask(Error, RuntimeError):
 
     def __init__(self, *arguments: object) -> None:
         Exception.__init__(self, *(arguments or ("another task has a transaction open",)))
+
+
+class NotUndone(Error, RuntimeError):
+    """A transaction failed, and memory or the system refused to undo it. The segment may have a part of its changes, and
+    is not saved any more: `discard` it."""
+
+    def __init__(self, *arguments: object) -> None:
+        Exception.__init__(self, *(arguments or ("a transaction could not be undone: discard the segment",)))
 
 
 class NoElement(Error, ValueError):
@@ -350,13 +370,42 @@ _classes = _all(Error)
 def error_of(code: int, about: object = None) -> Error:
     """Returns the error of a code, with the name that the call was about."""
     kind = _classes.get(code, Error)
-    said = _words(code)
+    said = _name_fault(about) if kind is BadName else _words(code)
     return kind(said if about is None else f"{said}: {shown(about)}")
 
 
+def _name_fault(name: object) -> str:
+    """Returns why a name is refused."""
+    text = name.encode("utf-8", "surrogatepass") if isinstance(name, str) else name
+    if isinstance(text, bytes) and len(text) > LONGEST_NAME:
+        return f"a name has at most {LONGEST_NAME} bytes of UTF-8, and this one {len(text)}"
+    return "a name has 1 to 255 bytes of UTF-8, without control characters"
+
+
+def too_large(size: int, extra: int) -> TooLarge:
+    """Returns the error of a segment of `size` bytes that cannot become longer by `extra` bytes."""
+    return TooLarge(f"the segment has {size} bytes, and {extra} more are above the limit of {LARGEST}")
+
+
+def region_error(code: int, capacity: int, size: int) -> Error:
+    """Returns the error of a region of `capacity` bytes for a segment of `size`."""
+    if code == ShortRegion.code:
+        return ShortRegion(f"a region of {capacity} bytes is too short for {size} bytes")
+    if code == BadSize.code:
+        return BadSize(f"no region has {capacity} bytes: it has a multiple of 16, from 16 on")
+    return error_of(code)
+
+
+def bad_size(size: int, about: object = None) -> BadSize:
+    """Returns the error of a new segment that cannot have so many bytes."""
+    name = "" if about is None else f"{shown(about)}: "
+    return BadSize(f"{name}no segment has {size} bytes: it has 144, or a multiple of 16 from 176 to {LARGEST}")
+
+
 def named(error: Error, key: object) -> Error:
-    """Returns the error, with the key of the object that it is about."""
-    if shown(key) in str(error):
+    """Returns the error, with the key of the object that it is about; the error of a file, which has `errno` and the
+    name of the file, as it is."""
+    if isinstance(error, FileError) or shown(key) in str(error):
         return error
     made = type(error)(f"{shown(key)}: {error}")
     made.__dict__.update(error.__dict__)
@@ -373,9 +422,13 @@ def no_space(about: object, wanted: Optional[int], free: int) -> NoSpace:
     return error
 
 
-def image_error_of(code: int, place: int, about: object = None) -> Error:
+def image_error_of(code: int, place: int, about: object = None, image: bytes = b"") -> Error:
     """Returns the error of bytes that are no image, with the offset that shows why."""
     error = error_of(code, about)
+    if isinstance(error, UnsupportedVersion):
+        version = f": version {int.from_bytes(image[8:12], 'little')}" if image else ""
+        name = "" if about is None else f": {shown(about)}"
+        error = UnsupportedVersion(f"{_words(code)}{version}{name}; `segment migrate` rewrites an image of an older one")
     if isinstance(error, BadImage):
         error.place = place
     return error
@@ -386,7 +439,14 @@ def file_error_of(code: int, file: _library.File, path: Any) -> Error:
     kind = _classes.get(code, Error)
     if not issubclass(kind, FileError):
         return image_error_of(code, file.place, path)
-    return _file_error(kind, file.error, path)
+    is_of_log = kind in (FileLogForeign, FileLogInTheWay, FileLogLeft)
+    return _file_error(kind, file.error, _log_path(path) if is_of_log else path)
+
+
+def _log_path(path: Any) -> Any:
+    """Returns the path of a file's log. A link has the log of the file to which it leads."""
+    path = os.path.realpath(path) if os.path.islink(path) else path
+    return path + (b"-log" if isinstance(path, bytes) else "-log")
 
 
 def _file_error(kind: Type[FileError], number: Optional[int], path: Any) -> FileError:

@@ -139,6 +139,8 @@ def _load() -> Any:
                                    "rollback": [ctypes.POINTER(Handle)], "commit": [],
                                    "begin": [ctypes.POINTER(Step)], "keep": [ctypes.POINTER(Step)],
                                    "undo": [ctypes.POINTER(Step)], "leave": [ctypes.POINTER(Step)]}
+    views = [ctypes.POINTER(Memory), ctypes.c_size_t, ctypes.POINTER(Memory)]
+    files.update({"undo_beside": [ctypes.POINTER(Step), *views], "close_beside": [ctypes.c_bool, *views]})
     for name, arguments in files.items():
         call = getattr(library, "zx_file_" + name)
         call.argtypes, call.restype = [ctypes.POINTER(File), *arguments], u32
@@ -164,8 +166,9 @@ def _load_quick() -> Any:
 
 
 zx = _load()
-free = ctypes.PyDLL(None).free
+free, unmap = ctypes.PyDLL(None).free, ctypes.PyDLL(None).munmap
 free.argtypes, free.restype = [ctypes.c_void_p], None
+unmap.argtypes, unmap.restype = [ctypes.c_void_p, ctypes.c_size_t], ctypes.c_int
 quick = _load_quick()
 HAS_PYTHON: bool = quick.zx_python_row([], U8, None, 0)
 """Whether the library takes this interpreter's own lists and numbers."""

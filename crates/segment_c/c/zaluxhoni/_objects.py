@@ -28,9 +28,24 @@ SAME = "as of the segment"
 """The encoding of a group that takes that of its segment."""
 
 
+class Left:
+    """Holds the memory that a segment left to views, until the last of them is gone."""
+    memory = _library.Memory()
+
+    def __init__(self, is_mapped: bool) -> None:
+        self.memory, self._is_mapped = _library.Memory(), is_mapped
+
+    def __del__(self) -> None:
+        if self.memory.at and self._is_mapped:
+            _library.unmap(self.memory.at, self.memory.len)
+        elif self.memory.at:
+            _library.free(self.memory.at)
+
+
 class Lease:
     """Lends the elements of an object in place, as long as this instance exists."""
     # the segment has weak references to its leases: nothing is to be done at their end
+    left: Optional[Left] = None
 
     def __init__(self, owner: Any, code: int) -> None:
         segment = self._segment = owner._segment
@@ -43,6 +58,16 @@ class Lease:
         form = f"{'|' if self._scalar.size == 1 else '<'}{_FORMS[self._scalar.letter]}{self._scalar.size}"
         self.__array_interface__ = {"version": 3, "data": (self._at, self._readonly), "shape": (self._count,),
                                     "typestr": form}
+
+    @property
+    def is_current(self) -> bool:
+        """Whether the segment still lies where the lease shows it."""
+        return self.left is None or not self.left.memory.at
+
+    @property
+    def memory(self) -> Tuple[int, int]:
+        """Its address and its number of bytes."""
+        return self._at, self._count * self._scalar.size
 
     def view(self) -> memoryview:
         """Returns a view that holds the lease."""

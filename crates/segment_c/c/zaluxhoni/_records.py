@@ -189,11 +189,14 @@ class Records(MutableSequence[Any]):
 
     def __getitem__(self, index: Any) -> Any:
         length = len(self)
-        if isinstance(index, slice):
-            records = self._read(0, length)
-            places_of(index, length)
-            return records[index]
-        return self._read(self._place(index, length), 1)[0]
+        if not isinstance(index, slice):
+            return self._read(self._place(index, length), 1)[0]
+        places = places_of(index, length)
+        if not places:
+            return []
+        first, last = min(places[0], places[-1]), max(places[0], places[-1])
+        records = self._read(first, last - first + 1)
+        return records if places.step == 1 else [records[place - first] for place in places]
 
     def __setitem__(self, index: Any, value: Any) -> None:
         length, size = len(self), self._form.size
@@ -297,6 +300,9 @@ class Records(MutableSequence[Any]):
     def copy(self) -> List[Any]:
         """Returns its records as a list."""
         return self._all()
+
+    def __reduce_ex__(self, _: Any) -> Any:
+        return list, (self._all(),)
 
     def __contains__(self, value: object) -> bool:
         return self._plain(value) in list(map(self._plain, self._all()))

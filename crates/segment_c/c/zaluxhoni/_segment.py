@@ -16,10 +16,11 @@ from typing import (TYPE_CHECKING, Any, Callable, Dict, ItemsView, Iterator, Key
                     NamedTuple, Optional, Tuple, ValuesView, overload)
 
 from . import _library
-from ._errors import (BadCount, BadKey, BadName, BadValue, Error, FileForked, FileUnsynced, Lent, NotFound,
-                      WrongKind, WrongTask, WrongThread, error_of, file_error_of, named, no_space, shown)
+from ._errors import (LONGEST_NAME, BadCount, BadGrowth, BadKey, BadName, BadValue, Error, FileForked, FileInStep,
+                      FileUnsynced, Lent, NotFound, NotUndone, TooLarge, WrongKind, WrongTask, WrongThread, error_of,
+                      file_error_of, named, no_space, region_error, shown, too_large)
 from ._library import BOOL, I32, I64, MAP, NO_SPACE, STRING, STRINGS, U8, U64, VECTOR, quick, zx
-from ._objects import SAME, Array, Map, Object, _Pairs, String, Strings, Vector, bytes_in, object_of
+from ._objects import SAME, Array, Lease, Left, Map, Object, _Pairs, String, Strings, Vector, bytes_in, object_of
 from ._records import Records
 from ._values import (KINDS, MOST, TEXTS, Key, MapKind, ScalarKind, Texts, VectorKind, code_of, counted, encoded,
                       handle, is_scalar, is_truth, listed, natural, number_in, pairs_of, raw_key, row, scalar, value_of,
@@ -28,7 +29,6 @@ from ._values import (KINDS, MOST, TEXTS, Key, MapKind, ScalarKind, Texts, Vecto
 _ABSENT, _OUT_OF_RANGE, _CLOSED = 10, 8, 16
 _NO_OBJECT = (6, 17, 18)
 _AHEAD = 1024
-_LONGEST_NAME = 255
 _NOBODY = 2**64 - 1
 """The number of no thread."""
 MODES = {"w": 0, "r": 1, "p": 2}
@@ -53,6 +53,14 @@ class Tile(NamedTuple):
     use: str
 
 
+_CHANGES = frozenset(id(getattr(zx, f"zx_{name}")) for name in (
+    "construct", "construct_vector", "construct_array", "construct_string", "construct_strings", "construct_map",
+    "find_or_construct", "find_or_construct_vector", "find_or_construct_string", "find_or_construct_strings",
+    "find_or_construct_map", "destroy", "set", "push", "pop", "insert", "assign", "extend", "erase", "reserve", "trim",
+    "clear", "assign_string", "append", "set_text", "push_text", "pop_text", "insert_text", "assign_texts", "map_put",
+    "map_erase", "write_elements", "put_pairs", "clear_map", "push_texts", "reserve_named", "reserve_unique",
+    "shrink_indexes", "zero_free", "relocate", "file_grow", "file_shrink"))
+"""The calls that change a segment, by their ids: functions of ctypes have no hash."""
 _Row = Tuple[str, int, int, int, Optional[int]]
 """A named object: its name, its kind, its number of scalars, its handle, and its value if it is a single scalar."""
 _INFO, _VALUE = struct.Struct("@IIIQQ"), struct.Struct("@IqQ")
@@ -500,24 +508,13 @@ def _scalar_for(values: Any, key: Any) -> str:
         raise WrongKind(f"{shown(key)}: {error}") from None
 
 
-class _Left:
-    """Holds memory for views after their segment is closed."""
-
-    memory = _library.Memory()
-
-    def __init__(self) -> None:
-        self.memory = _library.Memory()
-
-    def __del__(self) -> None:
-        _library.free(self.memory.at)
-
-
 class Segment(_Named, _library.Block):
     """A segment, used as a mapping from names to objects, in the order of the names' bytes. `open`, `create` and `load`
     make one."""
-    __slots__ = ("_file", "_handle", "_prefix", "_own_encoding", "_thread_number", "_may_ask", "_opener", "_thread",
-                 "_process", "_changes_at_fork", "_is_told", "_lock", "_changes", "_lent", "_any_name", "_was_lent",
-                 "_left", "_path", "_is_mapped", "_is_durable", "_classes", "_steps", "_task", "_restored", "_held",
+    __slots__ = ("_file", "_handle", "_prefix", "_own_encoding", "_thread_number", "_may_ask", "_opener", "_checked",
+                 "_thread",
+                 "_process", "_is_told", "_kept_changes", "_lock", "_changes", "_lent", "_any_name", "_was_lent",
+                 "_path", "_is_mapped", "_is_durable", "_classes", "_steps", "_task", "_restored", "_torn", "_held",
                  "_was_refused", "growing", "encoding", "__weakref__")
     if TYPE_CHECKING:
         def __enter__(self) -> Segment:
@@ -531,19 +528,22 @@ class Segment(_Named, _library.Block):
         # the number of the thread whose calls are not checked; 0: no call is checked; _NOBODY: each call is checked
         self._thread_number: int = _here.number if check_same_thread else 0
         self._may_ask = ctypes.c_uint64(self._thread_number)
-        self._opener = self._thread_number
+        self._opener = self._checked = self._thread_number
         self._thread = threading.current_thread()
-        self._process, self._changes_at_fork, self._is_told = os.getpid(), 0, False
+        self._process, self._is_told = os.getpid(), False
         self._lock = threading.RLock()
-        self._changes = 0
-        self._lent: List[Tuple[Any, int]] = []
+        # how often this package and the library changed the segment; the latter when its file had the same bytes
+        self._changes = self._kept_changes = 0
+        self._lent: List[Tuple[Callable[[], Optional[Lease]], int]] = []
         self._steps: List[_library.Step] = []
         self._task: Any = None
         self._restored: Optional[Tuple[bytes, int, int]] = None
         # the lock of its `with` block is its own, so no other thread waits while the block runs
         self._held, self._was_refused = threading.RLock(), False
-        self._any_name = ctypes.create_string_buffer(_LONGEST_NAME)
-        self._was_lent, self._left = False, []  # type: Tuple[bool, List[_Left]]
+        self._any_name = ctypes.create_string_buffer(LONGEST_NAME)
+        self._was_lent = False
+        # how many transactions were open when one of them could not be undone; 0: each was undone
+        self._torn = 0
         self._path: Any = None
         self._is_mapped = self._is_durable = False
         self._classes: Dict[Any, Any] = _plain if check_same_thread else _locked_classes()
@@ -565,7 +565,7 @@ class Segment(_Named, _library.Block):
     def _code(self, call: Any, *arguments: Any) -> int:
         """Returns the code of a library call."""
         if self._thread_number and _here.number != self._thread_number:
-            self._refuse_stranger()
+            self._refuse_stranger(call)
         code: int = call(self._handle, *arguments)
         if code == NO_SPACE and self.growing:
             return self._code_in_more_space(call, arguments)
@@ -577,12 +577,20 @@ class Segment(_Named, _library.Block):
         if code:
             raise self._error(code)
 
-    def _refuse_stranger(self) -> None:
-        """Raises WrongThread or WrongTask, unless the thread and the task may make calls."""
+    def _refuse_stranger(self, call: Any = None) -> None:
+        """Raises WrongThread or WrongTask, unless the thread and the task may make calls; FileForked, if the call would
+        change the segment of a file in a forked child, where nothing saves it."""
         if self._opener and _here.number != self._opener:
             raise WrongThread()
         if self._task is not None and self._task is not _task_here():
             raise WrongTask()
+        if self._is_forked and id(call) in _CHANGES:
+            raise FileForked(None, self._path)
+
+    @property
+    def _is_forked(self) -> bool:
+        """Whether this process was forked by the one that opened the file for writing."""
+        return self._process != os.getpid() and bool(self._file.held)
 
     def _error(self, code: int, about: object = None, arguments: Tuple[Any, ...] = (), count: int = 1) -> Error:
         """Returns the error of a call that failed."""
@@ -603,7 +611,7 @@ class Segment(_Named, _library.Block):
     def _file_call(self, call: Any, path: Any, *arguments: Any) -> None:
         """Makes a file call, and raises its error with the path."""
         if self._thread_number and _here.number != self._thread_number:
-            self._refuse_stranger()
+            self._refuse_stranger(call)
         code = call(self._file, *arguments)
         if code == _CLOSED:
             raise self._error(code)
@@ -642,13 +650,15 @@ class Segment(_Named, _library.Block):
     def _has(self, code: int, key: Any) -> bool:
         """Tells whether an object of the kind has the key. WrongKind."""
         found = self._code(zx.zx_find, raw_key(key), code, ctypes.c_uint64(), ctypes.c_uint32())
+        if found == WrongKind.code and isinstance(key, (str, bytes)):
+            raise WrongKind(f"{shown(key)} is a {self._info(key).kind}, and no {KINDS[code]}")
         if found and found != _ABSENT:
             raise self._error(found, key)
         return not found
 
     def _info(self, key: Any) -> Info:
-        told, name = _library.Info(), ctypes.create_string_buffer(_LONGEST_NAME)
-        code = self._code(zx.zx_tell, raw_key(key), told, name, _LONGEST_NAME)
+        told, name = _library.Info(), ctypes.create_string_buffer(LONGEST_NAME)
+        code = self._code(zx.zx_tell, raw_key(key), told, name, LONGEST_NAME)
         if code:
             raise self._error(code, key)
         return _info(told, name.raw)
@@ -663,7 +673,7 @@ class Segment(_Named, _library.Block):
 
     def _told_by(self, raw: _library.Key, key: Any) -> Optional[_library.Info]:
         told = _library.Info()
-        code = self._code(zx.zx_tell, raw, told, self._any_name, _LONGEST_NAME)
+        code = self._code(zx.zx_tell, raw, told, self._any_name, LONGEST_NAME)
         if code and code not in _NO_OBJECT:
             raise self._error(code, key)
         return None if code else told
@@ -694,11 +704,17 @@ class Segment(_Named, _library.Block):
         if code:
             raise self._error(code, key)
 
+    def _leases(self) -> List[Lease]:
+        """Returns the leases of the views that exist, and show the segment."""
+        found = [lent[0]() for lent in self._lent]
+        return [lease for lease in found if lease is not None and lease.is_current]
+
     def _is_lent(self) -> bool:
         """Tells whether a view exists. Views that are gone leave the list here, and not at the moment when they go: a
         signal could prevent that."""
         if self._lent:
-            self._lent = [lent for lent in self._lent if lent[0]() is not None]
+            found = [(lent[0](), lent) for lent in self._lent]
+            self._lent = [lent for lease, lent in found if lease is not None and lease.is_current]
         return bool(self._lent)
 
     def _refuse_lent(self, key: Any) -> None:
@@ -715,10 +731,11 @@ class Segment(_Named, _library.Block):
 
     @property
     def mode(self) -> str:
-        """How the segment is open: "write", "read" or "copy on write"."""
+        """How the segment is open: "write", "read" or "copy on write". In a forked child, a file that its parent writes
+        is open for "read"."""
         mode = ctypes.c_uint32()
         self._call(zx.zx_mode, mode)
-        return ("write", "read", "copy on write")[mode.value]
+        return "read" if self._is_forked else ("write", "read", "copy on write")[mode.value]
 
     @property
     def size(self) -> int:
@@ -746,7 +763,13 @@ class Segment(_Named, _library.Block):
         ReadOnly, Lent."""
         self._refuse_any_lent()
         self._changes += 1
-        self._file_call(zx.zx_file_grow, self._path, natural(extra))
+        added = natural(extra)
+        try:
+            self._file_call(zx.zx_file_grow, self._path, added)
+        except TooLarge:
+            raise too_large(self.size, added) from None
+        except BadGrowth:
+            raise BadGrowth(f"a segment grows by a multiple of 16, at least 32, and not by {added}") from None
 
     def shrink(self) -> None:
         """Cuts the free bytes off the end of the segment. ReadOnly, Lent."""
@@ -758,7 +781,10 @@ class Segment(_Named, _library.Block):
         """Moves the segment into a region of `capacity` bytes. BadSize, ShortRegion, NoMemory, Lent."""
         self._refuse_any_lent()
         self._changes += 1
-        self._call(zx.zx_relocate, natural(capacity))
+        wanted = natural(capacity)
+        code = self._code(zx.zx_relocate, wanted)
+        if code:
+            raise region_error(code, wanted, self.size) if self.is_open else self._error(code)
 
     def transaction(self) -> Transaction:
         """Makes all calls of a block one step. `with segment.transaction():` keeps all that the block did; if an
@@ -778,14 +804,27 @@ class Segment(_Named, _library.Block):
         if not self._steps:
             self._task = _task_here()
         self._steps.append(before)
+        before.is_kept = self._kept_changes == self._handle.changes
         if self._task is not None:
             self._thread_number = self._may_ask.value = _NOBODY
 
     def _end_step(self, before: _library.Step) -> None:
         self._steps = [step for step in self._steps if step is not before]
         if not self._steps:
-            self._thread_number = self._may_ask.value = self._opener
+            self._thread_number = self._may_ask.value = self._checked
             self._task = None
+
+    def _depth_of(self, before: _library.Step) -> int:
+        """Returns how many transactions are open up to this one."""
+        return [step is before for step in self._steps].index(True) + 1
+
+    def _keeps_step(self, before: _library.Step) -> bool:
+        """Whether the pages of a mapped file stay private, since its transaction could not be undone."""
+        return bool(self._torn) and self._is_mapped and not self._is_durable and len(self._steps) == 1
+
+    def _refuse_torn(self) -> None:
+        if self._torn:
+            raise NotUndone()
 
     def _roll_back(self, before: _library.Step) -> None:
         """Restores the segment. Views keep their bytes, in memory of their own. If a signal handler interrupts it, a
@@ -794,7 +833,8 @@ class Segment(_Named, _library.Block):
         if self._restored is None:
             if not self._is_lent():
                 return self._file_call(zx.zx_file_undo, self._path, before)
-            self._refuse_lent_file()
+            if self._is_mapped:
+                return self._file_call(zx.zx_file_undo_beside, self._path, before, *self._leave_copy())
             length = ctypes.c_uint64()
             zx.zx_step_image(before, None, 0, length)
             image = ctypes.create_string_buffer(length.value)
@@ -803,7 +843,6 @@ class Segment(_Named, _library.Block):
         image_before, capacity, mode = self._restored
         if self.is_open:
             self._leave_memory()
-        self._lent.clear()
         self._call(zx.zx_open, image_before, len(image_before), capacity, mode)
         self._restored = None
 
@@ -812,57 +851,82 @@ class Segment(_Named, _library.Block):
     def save(self) -> None:
         """Saves the segment in its file, unless the file has these bytes already. A new file replaces the old one when
         it is completely on the disk. So the name always leads to a whole file, the old or the new one. ReadOnly,
-        NoFile, FileError; of all errors, only FileUnsynced means that the segment is saved."""
-        self._note_views()
-        self._file_call(zx.zx_file_save, self._path)
+        NoFile, FileError; of all errors, only FileUnsynced means that the segment is saved. FileInStep in a
+        transaction; NotUndone behind one that could not be undone."""
+        self._save(zx.zx_file_save)
 
     def commit(self) -> None:
         """Commits the changes of a file opened with `durable`: then they are on the disk, and survive whatever ends the
         process. The cost depends on what was changed. For any other file it does what `flush` does. The errors of
-        `save`; FileInStep in a transaction; FileUnsure if nobody knows whether the changes are on the disk."""
-        self._note_views()
-        self._file_call(zx.zx_file_commit, self._path)
+        `save`; FileUnsure if nobody knows whether the changes are on the disk."""
+        self._save(zx.zx_file_commit)
 
     def flush(self) -> None:
         """Waits until the changes of a mapped file are on the disk, and commits a durable one; saves any other file.
         The errors of `save` and `commit`."""
+        self._save(zx.zx_file_flush)
+
+    def _save(self, call: Any) -> None:
+        self._refuse_save()
         self._note_views()
-        self._file_call(zx.zx_file_flush, self._path)
+        self._file_call(call, self._path)
+        self._kept_changes = self._handle.changes
+
+    def _refuse_save(self) -> None:
+        """Raises FileInStep in a transaction, since half a step is never saved, and NotUndone behind one."""
+        if self._thread_number and _here.number != self._thread_number:
+            self._refuse_stranger()
+        if self._steps:
+            raise FileInStep(None, self._path)
+        self._refuse_torn()
 
     def save_as(self, path: Any) -> None:
         """Saves the image to a new file. FileExists, FileError."""
-        self._file_call(zx.zx_file_save_as, path, path_bytes(path), FILE_MODES["x"])
+        passed = path_bytes(path)
+        self._file_call(zx.zx_file_save_as, os.fspath(path), passed, FILE_MODES["x"])
 
     def close(self) -> None:
         """Saves the file, if it is open for writing, and closes the segment. After an error other than FileUnsynced it
-        is still open. A view keeps the memory that it shows; a view of a mapped file raises Lent."""
-        if self._is_lent():
-            self._refuse_lent_file()
-            try:
-                if self._file.held:
-                    self.save()
-            except FileUnsynced:
-                self.discard()
-                raise
-            return self.discard()
-        self._changes += 1
-        self._note_views()
-        self._file_call(zx.zx_file_close, self._path)
+        is still open. The errors of `save`. A view keeps the bytes that it shows."""
+        self._refuse_save()
+        if not self._is_lent():
+            self._changes += 1
+            self._note_views()
+            return self._file_call(zx.zx_file_close, self._path)
+        if self._is_mapped:
+            self._changes += 1
+            self._note_views()
+            return self._file_call(zx.zx_file_close_beside, self._path, True, *self._leave_copy())
+        try:
+            if self._file.held:
+                self.save()
+        except FileUnsynced:
+            self.discard()
+            raise
+        self.discard()
 
     def discard(self) -> None:
         """Closes the segment without saving. Removes a file that it created and never saved. A mapped file stays, with
-        all changes. Lent, as for `close`."""
+        all changes. A view keeps the bytes that it shows."""
         if self._thread_number and _here.number != self._thread_number:
             self._refuse_stranger()
-        if self._is_lent():
-            self._refuse_lent_file()
-            self._leave_memory()
+        self._discard()
+
+    def _discard(self) -> None:
         self._changes += 1
+        if self._is_lent() and self._is_mapped:
+            views = self._leave_copy()
+            code = zx.zx_file_close_beside(self._file, False, *views)
+            if code:
+                raise file_error_of(code, self._file, self._path)
+        elif self._is_lent():
+            left, _ = self._leave(False)
+            zx.zx_detach(self._handle, left.memory)
         zx.zx_file_discard(self._file)
 
     # -- views
 
-    def _lend(self, lease: Any, number: int) -> None:
+    def _lend(self, lease: Lease, number: int) -> None:
         """Notes that a view holds the elements of an object."""
         self._was_lent = True
         self._lent.append((weakref.ref(lease), number))
@@ -872,16 +936,24 @@ class Segment(_Named, _library.Block):
         if self._was_lent:
             self._handle.shared = True
 
-    def _refuse_lent_file(self) -> None:
-        if self._is_mapped:
-            self._refuse_any_lent()
+    def _leave(self, is_mapped: bool) -> Tuple[Left, List[Lease]]:
+        """Returns what holds the memory of the views that exist, once a call has left it to them. The views hold it
+        before the call, since a signal handler may raise behind the call."""
+        left, leases = Left(is_mapped), self._leases()
+        for lease in leases:
+            lease.left = left
+        return left, leases
 
     def _leave_memory(self) -> None:
         """Closes the segment, and leaves its memory to the views that exist."""
-        left = _Left()
-        self._left.append(left)
+        left, _ = self._leave(False)
         self._call(zx.zx_detach, left.memory)
-        self._lent.clear()
+
+    def _leave_copy(self) -> Tuple[Any, int, _library.Memory]:
+        """Returns the last arguments of a call that leaves the views of a mapped file a copy of their bytes."""
+        left, leases = self._leave(True)
+        memory = [_library.Memory(*lease.memory) for lease in leases]
+        return (_library.Memory * len(memory))(*memory), len(memory), left.memory
 
     @property
     def is_open(self) -> bool:
@@ -904,6 +976,10 @@ class Segment(_Named, _library.Block):
                 self.close()
             else:
                 self.discard()
+        except NotUndone:
+            self._was_refused = True
+            self.discard()
+            raise
         except Error:
             self._was_refused = True
             raise
@@ -915,53 +991,49 @@ class Segment(_Named, _library.Block):
             return
         _ending[id(file)] = threading.get_ident()
         try:
-            if self._end_unclosed(True):
-                said = f"a segment of {self._path!r} was not closed; it was saved when it was collected"
-                warnings.warn(said, ResourceWarning, source=self)
+            self._say_unclosed()
         finally:
             _ending.pop(id(file), None)
             zx.zx_file_discard(file)
 
-    def _end_unclosed(self, is_alone: bool) -> bool:
-        """Saves and closes a segment that nobody closed, and returns True. If it cannot save, as in a transaction or
-        while another thread uses the segment, it says so on standard error and returns False. It also returns False if
-        there is nothing to save. `is_alone`: no other thread can use the segment."""
+    def _end_at_exit(self) -> None:
+        """Discards a segment that nobody closed, unless another thread may be in a call of it."""
+        is_here = not self._opener or self._thread is threading.current_thread() or not self._thread.is_alive()
+        said = self._unclosed()
+        if is_here and self._process == os.getpid() and self._lock.acquire(blocking=False):
+            try:
+                self._discard()
+            finally:
+                self._lock.release()
+        self._say(said)
+
+    def _say_unclosed(self) -> None:
+        self._say(self._unclosed())
+
+    def _unclosed(self) -> Tuple[str, bool]:
+        """Returns what is to be said about a segment that nobody closed, or "", and whether changes are lost."""
         mode = ctypes.c_uint32()
         zx.zx_mode(self._handle, mode)
-        if not self._file.held or mode.value != MODES["w"] or self._is_told:
-            return False
-        if self._process != os.getpid():
-            is_changed = self._changes != self._changes_at_fork
-            return is_changed and self._say_unsaved("it belongs to the parent of this process")
-        is_here = not self._opener or self._thread is threading.current_thread()
-        if not (is_alone or is_here) and self._thread.is_alive():
-            return self._say_unsaved("its thread still runs")
-        if not self._lock.acquire(blocking=False):
-            return self._say_unsaved("another thread uses it")
-        try:
-            if self._steps:
-                return self._say_unsaved("a transaction is open")
-            self._note_views()
-            code = zx.zx_file_save(self._file)
-            if code and code != FileUnsynced.code:
-                return self._say_unsaved(str(file_error_of(code, self._file, self._path)))
-            if is_alone or not self._is_lent():
-                zx.zx_file_discard(self._file)
-            return True
-        finally:
-            self._lock.release()
-
-    def _say_unsaved(self, reason: str) -> bool:
-        """Says on standard error, once, that the segment is not saved, and returns False."""
-        left = ("its file stays as it was committed last" if self._is_durable else
-                "its file has the changes so far" if self._is_mapped else "its file stays as it was saved last")
+        if not self._file.held or mode.value != MODES["w"] or self._process != os.getpid() or self._is_told:
+            return "", False
         self._is_told = True
-        try:
-            print(f"zaluxhoni: the segment of {self._path!r} was not closed, and is not saved, since {reason}; {left}",
-                  file=sys.stderr)
-        except Exception:
-            pass
-        return False
+        is_changed = self._kept_changes != self._handle.changes or self._was_lent
+        lost = ("what its open transaction changed" if self._steps and self._is_mapped else
+                "what was changed since its last commit" if self._is_durable and is_changed else
+                "what was changed since its last save" if not self._is_mapped and is_changed else "")
+        said = f"the segment of {self._path!r} was not closed"
+        return (f"{said}: {lost} is lost", True) if lost else (said, False)
+
+    def _say(self, said: Tuple[str, bool]) -> None:
+        """Says on standard error what is lost, and by a warning that a segment was not closed."""
+        text, is_lost = said
+        if is_lost:
+            try:
+                print(f"zaluxhoni: {text}; close() saves, and so does the end of a `with` block", file=sys.stderr)
+            except Exception:
+                pass
+        if text:
+            warnings.warn(text, ResourceWarning, source=self)
 
     def __reduce_ex__(self, _: Any) -> Any:
         raise WrongKind("a segment is not copied: load(segment.image()) makes another one")
@@ -1006,7 +1078,7 @@ class Segment(_Named, _library.Block):
     def _names(self, index: int, many: int) -> List[_Row]:
         """Reads at most `many` named objects, from an index on."""
         infos, values = ctypes.create_string_buffer(many * _INFO.size), ctypes.create_string_buffer(many * _VALUE.size)
-        room, read = max(_LONGEST_NAME, 64 * many), ctypes.c_size_t()
+        room, read = max(LONGEST_NAME, 64 * many), ctypes.c_size_t()
         names = ctypes.create_string_buffer(room)
         self._call(zx.zx_read_names, index, infos, values, names, room, many, read)
         rows: List[_Row] = []
@@ -1081,6 +1153,9 @@ class Group(_Named):
         behind = prefix[:-1] + bytes([prefix[-1] + 1])
         return self._segment._first_from(behind) - self._segment._first_from(prefix)
 
+    def __reduce_ex__(self, _: Any) -> Any:
+        raise WrongKind("a group is not copied: dict(group) has its names and objects")
+
     def __repr__(self) -> str:
         return f"<Group {self._prefix!r} of {self._segment!r}>"
 
@@ -1107,6 +1182,9 @@ class Transaction(_library.Block):
         self._copies: List[_library.Step] = []
         self._was_refused = False
 
+    def __reduce_ex__(self, _: Any) -> Any:
+        raise WrongKind("a transaction is not copied: segment.transaction() makes another one")
+
     def _begin(self) -> Segment:
         segment, before = self._segment, _library.Step()
         segment._refuse_stranger()
@@ -1126,12 +1204,9 @@ class Transaction(_library.Block):
         if raised is None and is_open and not self._was_refused:
             self._keep(before)
         elif (before.copy.at or before.kept) and is_open and not self._was_refused:
-            try:
-                segment._roll_back(before)
-            except Error:
-                self._was_refused = True
-                raise
-        zx.zx_file_leave(segment._file, before)
+            self._undo(before)
+        if not segment._keeps_step(before):
+            zx.zx_file_leave(segment._file, before)
         segment._end_step(before)
         del self._copies[depth - 1:]
 
@@ -1140,12 +1215,29 @@ class Transaction(_library.Block):
         segment = self._segment
         segment._note_views()
         try:
+            segment._refuse_torn()
             segment._file_call(zx.zx_file_keep, segment._path, before)
+            if segment._is_durable and len(segment._steps) == 1:
+                segment._kept_changes = segment._handle.changes
         except Error:
-            if before.kept:
-                segment._roll_back(before)
+            if before.copy.at or before.kept:
+                self._undo(before)
             self._was_refused = True
             raise
+
+    def _undo(self, before: _library.Step) -> None:
+        """Restores the segment. If that fails, no call saves what the block did."""
+        segment = self._segment
+        try:
+            segment._roll_back(before)
+        except (Error, MemoryError):
+            self._was_refused = True
+            segment._torn = segment._torn or segment._depth_of(before)
+            raise
+        if segment._depth_of(before) < segment._torn:
+            segment._torn = 0
+        if before.is_kept:
+            segment._kept_changes = segment._handle.changes
 
 
 def _task_here() -> Any:
@@ -1160,11 +1252,12 @@ def _task_here() -> Any:
 # ---- segments that nobody closed
 
 _opened: Any = weakref.WeakValueDictionary()
-"""The segments that were opened with the right to save their file, by their ids."""
+"""The segments that have a file, by their ids."""
 
 
 def note_opened(segment: Segment) -> None:
-    """Notes a segment that has a file to save, so that this is done at the end of the process if nobody closes it."""
+    """Notes a segment that has a file, so that it is discarded at the end of the process if nobody closes it."""
+    segment._kept_changes = segment._handle.changes
     if segment._file.held:
         _opened[id(segment)] = segment
 
@@ -1193,13 +1286,21 @@ def discard_lost() -> bool:
 
 
 def _note_fork() -> None:
+    """Has each call of a forked child checked that concerns a file of its parent."""
     for segment in list(_opened.values()):
-        segment._changes_at_fork = segment._changes
+        segment._checked = segment._thread_number = segment._may_ask.value = _NOBODY
 
 
 def _end_all() -> None:
+    errors: List[Exception] = []
     for segment in list(_opened.values()):
-        segment._end_unclosed(False)
+        try:
+            segment._end_at_exit()
+        except Exception as error:
+            # each is ended, also where warnings are errors
+            errors.append(error)
+    if errors:
+        raise errors[0]
 
 
 os.register_at_fork(after_in_child=_note_fork)
@@ -1226,7 +1327,7 @@ def _locked(kind: Any) -> Any:
     for base in reversed(kind.__mro__[:-1]):
         for name, member in vars(base).items():
             if name in ("__init__", "__new__", "__del__", "__exit__", "__init_subclass__", "__class_getitem__",
-                        "__subclasshook__", "_end_unclosed", "_say_unsaved"):
+                        "__subclasshook__", "_end_at_exit", "_say_unclosed", "_unclosed", "_say", "_discard"):
                 continue
             if inspect.isfunction(member) and not inspect.isgeneratorfunction(member):
                 members[name] = _locks(member)

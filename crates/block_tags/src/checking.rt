@@ -1,14 +1,15 @@
 //! Checks the tags of any window.
 ghost use Rattle.std.specs.Prelude.{◌≡◌, ◌+◌, ◌*◌, ◌≤◌, ◌<◌, ◌^◌, ◌==◌, ◌&&◌, IsTrue, false, is_ok, length};
-ghost use Rattle.raw_region.specs.Memory.{bytes_of, word_at};
+ghost use Rattle.raw_region.specs.Memory.{Memory, bytes_of, word_at};
 ghost use Rattle.raw_region.specs.Format.{current};
 ghost use Rattle.block_tags.specs.Checks.{StopsAt, good_tiles_of, is_good_tile, is_tagged};
 ghost use Rattle.block_tags.specs.Format.{is_legal_size};
 ghost use Rattle.block_tags.specs.Tiles.{has_tags, tiles_of};
 
 use crate::sizes::{HEADER_LEN, TAG_LEN};
+use crate::tag_reader::{Tag, TagReader};
 use crate::tile::{BadTag, Tile};
-use crate::words::{END_MARK, may_be_red, tag_word, tile_there};
+use crate::words::{END_MARK, may_be_red, tag_word, tile_of_word};
 use raw_region::Window;
 
 /// The number of the current format.
@@ -55,50 +56,69 @@ pub fn check_counted(format: u64, window: &Window) -> CheckedTags
         → result.tags ≡ length (tiles_of (bytes_of window.now.bytes) (length window.now.bytes)) + 1 }
     ensures max_count { 32 * result.tags + 112 ≤ length window.now.bytes }
 {
-    let end = window.size() - TAG_LEN;
-    let mut tags = 1;
+    check_tags(format, &mut TagReader::new(window))
+}
+
+/// Reads the tags up to the first bad one.
+fn check_tags(format: u64, reader: &mut TagReader) -> CheckedTags
+    requires size { IsTrue (is_legal_size (length reader.old.window.now.bytes)) }
+    requires start { reader.old.tags ≡ 0 }
+    ensures good { result.are_good
+        ≡ has_tags format (bytes_of reader.old.window.now.bytes) (length reader.old.window.now.bytes) }
+    ensures stop { result.are_good ≡ false
+        → StopsAt format (bytes_of reader.old.window.now.bytes) (length reader.old.window.now.bytes) result.at }
+    ensures read { result.tags
+        ≡ good_tiles_of format (bytes_of reader.old.window.now.bytes) (length reader.old.window.now.bytes) + 1 }
+    ensures tiles { IsTrue result.are_good
+        → result.tags
+        ≡ length (tiles_of (bytes_of reader.old.window.now.bytes) (length reader.old.window.now.bytes)) + 1 }
+    ensures max_count { 32 * result.tags + 112 ≤ length reader.old.window.now.bytes }
+{
+    let end = reader.size() - TAG_LEN;
     let mut at = HEADER_LEN;
     let mut before = 0;
     let mut behind_free = false;
     'tags: while at < end {
-        if !is_good(format, window, at, before, behind_free, end) {
+        let tag = reader.read(at);
+        if !is_good(format, tag, at, before, behind_free, end) {
             return CheckedTags {
                 are_good: false,
-                tags,
+                tags: reader.count(),
                 at,
             };
         }
-        let tile = tile_there(window, at);
-        tags += 1;
+        let tile = tile_of_word(at, tag.word);
         at += tile.len;
         before = tile.len;
         behind_free = tile.use_of.is_none();
     }
-    let are_good = ends_well(window, end, before);
-    CheckedTags { are_good, tags, at }
+    let last = reader.read(end);
+    let are_good = is_end(last, before);
+    CheckedTags {
+        are_good,
+        tags: reader.count(),
+        at,
+    }
 }
 
-/// Returns true if the end tag is at `end`, after a tile of `before` bytes.
-fn ends_well(window: &Window, end: u64, before: u64) -> bool
-    requires max_size { end < 2 ^ 63 }
-    requires in_bounds { end + TAG_LEN ≤ length window.now.bytes }
-    ensures { result ≡ ((word_at (bytes_of window.now.bytes) end == before)
-        && (word_at (bytes_of window.now.bytes) (end + 8) == 1)) }
+/// Returns true if this is the end tag after a tile of `before` bytes.
+fn is_end(tag: Tag, before: u64) -> bool
+    ensures { result ≡ ((tag.before == before) && (tag.word == 1)) }
 {
-    window.read_u64(end) == before && window.read_u64(end + 8) == END_MARK
+    tag.before == before && tag.word == END_MARK
 }
 
-/// Returns true if a good tag of the format is at `at`, for a tile that ends by `end` and follows a tile of `before`
-/// bytes.
+/// Returns true if this tag at `at` is a good one of the format, for a tile that ends by `end` and follows a tile of
+/// `before` bytes.
 #[tactic(auto, unfolding(crate::specs::Checks::is_good_tile))]
-fn is_good(format: u64, window: &Window, at: u64, before: u64, behind_free: bool, end: u64) -> bool
+fn is_good(format: u64, tag: Tag, at: u64, before: u64, behind_free: bool, end: u64) -> bool
     requires in_bounds { at < end }
     requires max_size { end < 2 ^ 63 }
-    requires end { end + TAG_LEN ≤ length window.now.bytes }
-    ensures { result ≡ is_good_tile format (bytes_of window.now.bytes) at before behind_free end }
+    ensures { (m : Memory) → tag.before ≡ word_at m at → tag.word ≡ word_at m (at + 8)
+        → result ≡ is_good_tile format m at before behind_free end }
 {
-    let tile = tile_there(window, at);
-    if window.read_u64(at) != before {
+    let tile = tile_of_word(at, tag.word);
+    if tag.before != before {
         return false;
     }
     if tile.len > end - at {
@@ -107,7 +127,7 @@ fn is_good(format: u64, window: &Window, at: u64, before: u64, behind_free: bool
     if behind_free && tile.use_of.is_none() {
         return false;
     }
-    is_whole(format, tile, window.read_u64(at + 8))
+    is_whole(format, tile, tag.word)
 }
 
 /// Returns true if the tile can occur in a window of the format and `word` is the second word of its tag.

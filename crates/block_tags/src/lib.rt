@@ -8,6 +8,7 @@ mod checking;
 mod ends;
 mod reading;
 mod sizes;
+mod tag_reader;
 pub mod theorems;
 mod tile;
 mod tile_changes;

@@ -6,7 +6,7 @@ ghost use Rattle.link_tree.specs.Nodes.{leads, first_not_before};
 ghost use Rattle.link_tree.specs.Searching.{path_length};
 ghost use Rattle.link_tree.specs.Ways.{EndsPath, insert_point_of, last_on, remove_point_of, passed, reached, followed};
 
-use crate::cursor::NodeCursor;
+use crate::cursor::{CountedNodes, NodeCursor, count_steps};
 use crate::descending::{PathFold, descend};
 use crate::nodes::Nodes;
 
@@ -31,8 +31,14 @@ struct Passed {
 impl PathFold for Passed {
     ghost passed = { passed };
 
-    fn fold_node<N: Nodes>(self, nodes: &N, node: u64, _before: bool) -> Passed {
-        if nodes.red(node) {
+    fn fold_node<N: Nodes>(
+        self,
+        nodes: &CountedNodes<N>,
+        visits: &mut NodeCursor,
+        node: u64,
+        _before: bool,
+    ) -> Passed {
+        if visits.red(nodes, node) {
             return Passed {
                 above: None,
                 entry: self.entry,
@@ -68,7 +74,13 @@ struct Reached {
 impl PathFold for Reached {
     ghost passed = { reached };
 
-    fn fold_node<N: Nodes>(self, _nodes: &N, node: u64, before: bool) -> Reached {
+    fn fold_node<N: Nodes>(
+        self,
+        _nodes: &CountedNodes<N>,
+        _visits: &mut NodeCursor,
+        node: u64,
+        before: bool,
+    ) -> Reached {
         Reached {
             node: if before { self.node } else { Some(node) },
             last: Some(node),
@@ -103,8 +115,14 @@ struct Followed {
 impl PathFold for Followed {
     ghost passed = { followed };
 
-    fn fold_node<N: Nodes>(self, nodes: &N, node: u64, before: bool) -> Followed {
-        let red = nodes.red(node);
+    fn fold_node<N: Nodes>(
+        self,
+        nodes: &CountedNodes<N>,
+        visits: &mut NodeCursor,
+        node: u64,
+        before: bool,
+    ) -> Followed {
+        let red = visits.red(nodes, node);
         let exit = if red { self.above } else { self.exit };
         Followed {
             node: if before { self.node } else { Some(node) },
@@ -197,17 +215,17 @@ pub fn find_entry<N: Nodes>(
             steps: 0,
         };
     };
-    let mut visits = NodeCursor::new();
-    if !visits.red(nodes, node) {
+    let (counted, mut visits) = count_steps(nodes);
+    if !visits.red(&counted, node) {
         return EntryPoint {
             entry: last,
-            steps: visits.steps,
+            steps: visits.steps(),
         };
     }
     let way = find_insert_point(nodes, root, probe);
     EntryPoint {
         entry: way.entry,
-        steps: visits.steps + way.steps,
+        steps: visits.steps() + way.steps,
     }
 }
 

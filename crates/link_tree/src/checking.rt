@@ -7,7 +7,7 @@ ghost use Rattle.link_tree.specs.Nodes.{leads, is_in};
 ghost use Rattle.link_tree.specs.Between.{count_between, is_between};
 ghost use Rattle.link_tree.specs.Checking.{IsLinkClosed, IsSound};
 
-use crate::cursor::{NodeCursor, Side};
+use crate::cursor::{CountedNodes, NodeCursor, Side, count_steps};
 use crate::nodes::Nodes;
 
 /// An upper bound on the height of a red-black tree with at most 2 to the 40th nodes.
@@ -31,7 +31,7 @@ struct Part {
 
 /// Returns true if the node follows `low` and precedes `high`, as far as they are there.
 fn stands_between<N: Nodes>(
-    nodes: &N,
+    nodes: &CountedNodes<N>,
     visits: &mut NodeCursor,
     low: Option<u64>,
     node: u64,
@@ -65,7 +65,7 @@ fn stands_between<N: Nodes>(
 /// It visits no node twice between the same bounds, so it ends on cycles and shared nodes too. Each nested call has one
 /// level less, so the depth is at most 82 calls for any links.
 fn check_below<N: Nodes>(
-    nodes: &N,
+    nodes: &CountedNodes<N>,
     visits: &mut NodeCursor,
     link: Option<u64>,
     low: Option<u64>,
@@ -153,15 +153,15 @@ pub fn check<N: Nodes>(nodes: &N, root: Option<u64>) -> CheckedTree
     // A check that succeeds visits each node at least once.
     ensures steps_lower { IfSome result.nodes (λ n. n ≤ result.steps) }
 {
-    let mut visits = NodeCursor::new();
-    let Some(part) = check_below(nodes, &mut visits, root, None, None, true, MAX_HEIGHT) else {
+    let (nodes, mut visits) = count_steps(nodes);
+    let Some(part) = check_below(&nodes, &mut visits, root, None, None, true, MAX_HEIGHT) else {
         return CheckedTree {
             nodes: None,
-            steps: visits.steps,
+            steps: visits.steps(),
         };
     };
     CheckedTree {
         nodes: Some(part.nodes),
-        steps: visits.steps,
+        steps: visits.steps(),
     }
 }

@@ -1,5 +1,4 @@
-//! The access to nodes, which counts each step from one node to another. Only the fold of a search reads a node without
-//! it: the node at which the search stands.
+//! The access to nodes, which counts each step from one node to another.
 
 ghost use Rattle.std.specs.Prelude.{◌≡◌, ◌≢◌, ℕ, ◌+◌, ◌<◌, ◌≤◌, ◌^◌, Bool, true, false, Option, Some, None};
 ghost use Rattle.link_tree.specs.Tree.{Cell};
@@ -7,6 +6,7 @@ ghost use Rattle.link_tree.specs.Nodes.{with_red, leads};
 ghost use Rattle.link_tree.specs.Frame.{SameExceptCells};
 
 use crate::nodes::{Nodes, NodesMut};
+use std::marker::Model;
 
 /// One of a node's two links.
 #[derive(Clone, Copy)]
@@ -47,23 +47,52 @@ pub struct DescentStep {
     pub link: Option<u64>,
 }
 
-/// A position at a node, and the number of steps to it.
-#[derive(Clone, Copy)]
+/// Nodes that only a cursor reads and writes. Contracts read it as the nodes.
+#[derive(Drop)]
+pub struct CountedNodes<N> {
+    nodes: N,
+}
+
+impl<N> Model for CountedNodes<N> {
+    ghost Value = { N };
+
+    ghost view = { λ s. s.nodes };
+}
+
+impl<N> CountedNodes<N> {
+    /// Returns the nodes. No cursor counts what is done with them.
+    pub fn into_nodes(self) -> N
+        ensures { result ≡ self }
+    {
+        let CountedNodes { nodes } = self;
+        nodes
+    }
+}
+
+/// A position at a node, and the number of steps to it. There is one cursor for counted nodes, and no copy of it.
+#[derive(Drop)]
 pub struct NodeCursor {
     at: Option<u64>,
-    /// The number of steps so far. Only the calls of this file change it.
-    pub steps: u64,
+    steps: u64,
+}
+
+/// Returns nodes for a call, and the cursor that counts its steps: it has no position, and 0 steps.
+pub fn count_steps<N: Nodes>(nodes: N) -> (CountedNodes<N>, NodeCursor)
+    ensures nodes { result.0 ≡ nodes }
+    ensures position { result.1.at ≡ None }
+    ensures steps { result.1.steps ≡ 0 }
+{
+    (CountedNodes { nodes }, NodeCursor { at: None, steps: 0 })
 }
 
 impl NodeCursor {
     ghost use Rattle.link_tree.specs.Sides.{child_of, side_of, with_child};
 
-    /// Makes a cursor without a position, with 0 steps.
-    pub fn new() -> NodeCursor
-        ensures position { result.at ≡ None }
-        ensures steps { result.steps ≡ 0 }
+    /// Returns the number of steps so far.
+    pub fn steps(&self) -> u64
+        ensures { result ≡ self.now.steps }
     {
-        NodeCursor { at: None, steps: 0 }
+        self.steps
     }
 
     fn go(&mut self, node: u64)
@@ -81,7 +110,7 @@ impl NodeCursor {
     }
 
     /// Goes to a node and returns its link on a side.
-    pub fn child<N: Nodes>(&mut self, nodes: &N, node: u64, side: Side) -> Option<u64>
+    pub fn child<N: Nodes>(&mut self, nodes: &CountedNodes<N>, node: u64, side: Side) -> Option<u64>
         requires node { N.is_node nodes.now node ≡ true }
         requires no_overflow { self.old.steps + 1 < 2 ^ 64 }
         ensures value { result ≡ child_of side (N.cells nodes.now node) }
@@ -94,13 +123,13 @@ impl NodeCursor {
     {
         self.go(node);
         match side {
-            Side::Left => nodes.left(node),
-            Side::Right => nodes.right(node),
+            Side::Left => nodes.nodes.left(node),
+            Side::Right => nodes.nodes.right(node),
         }
     }
 
     /// Goes to a node and returns true if it is red.
-    pub fn red<N: Nodes>(&mut self, nodes: &N, node: u64) -> bool
+    pub fn red<N: Nodes>(&mut self, nodes: &CountedNodes<N>, node: u64) -> bool
         requires node { N.is_node nodes.now node ≡ true }
         requires no_overflow { self.old.steps + 1 < 2 ^ 64 }
         ensures value { result ≡ (N.cells nodes.now node).red }
@@ -111,11 +140,11 @@ impl NodeCursor {
         ensures progress { self.old.at ≡ None → self.old.steps < self.new.steps }
     {
         self.go(node);
-        nodes.red(node)
+        nodes.nodes.red(node)
     }
 
     /// Goes to both nodes and returns true if the first precedes the second.
-    pub fn precedes<N: Nodes>(&mut self, nodes: &N, first: u64, second: u64) -> bool
+    pub fn precedes<N: Nodes>(&mut self, nodes: &CountedNodes<N>, first: u64, second: u64) -> bool
         requires first { N.is_node nodes.now first ≡ true }
         requires second { N.is_node nodes.now second ≡ true }
         requires no_overflow { self.old.steps + 2 < 2 ^ 64 }
@@ -128,11 +157,16 @@ impl NodeCursor {
     {
         self.go(first);
         self.go(second);
-        nodes.precedes(first, second)
+        nodes.nodes.precedes(first, second)
     }
 
     /// Goes to a node and returns true if it precedes the probe.
-    pub fn before_probe<N: Nodes>(&mut self, nodes: &N, node: u64, probe: &N::Probe) -> bool
+    pub fn before_probe<N: Nodes>(
+        &mut self,
+        nodes: &CountedNodes<N>,
+        node: u64,
+        probe: &N::Probe,
+    ) -> bool
         requires node { N.is_node nodes.now node ≡ true }
         requires no_overflow { self.old.steps + 1 < 2 ^ 64 }
         ensures value { result ≡ N.before nodes.now probe.now node }
@@ -141,11 +175,11 @@ impl NodeCursor {
         ensures progress_on_step { self.old.at ≢ Some node → self.new.steps ≡ self.old.steps + 1 }
     {
         self.go(node);
-        nodes.before_probe(node, probe)
+        nodes.nodes.before_probe(node, probe)
     }
 
     /// Returns the side of `at` on which `node` belongs, and the link on that side.
-    pub fn toward<N: Nodes>(&mut self, nodes: &N, node: u64, at: u64) -> DescentStep
+    pub fn toward<N: Nodes>(&mut self, nodes: &CountedNodes<N>, node: u64, at: u64) -> DescentStep
         requires node { N.is_node nodes.now node ≡ true }
         requires position { N.is_node nodes.now at ≡ true }
         requires no_overflow { self.old.steps + 3 < 2 ^ 64 }
@@ -163,7 +197,13 @@ impl NodeCursor {
     }
 
     /// Goes to a node and sets its link on a side.
-    pub fn set_child<N: NodesMut>(&mut self, nodes: &mut N, node: u64, side: Side, to: Option<u64>)
+    pub fn set_child<N: NodesMut>(
+        &mut self,
+        nodes: &mut CountedNodes<N>,
+        node: u64,
+        side: Side,
+        to: Option<u64>,
+    )
         requires node { N.is_node nodes.old node ≡ true }
         requires target { leads (N.is_node nodes.old) to ≡ true }
         requires no_overflow { self.old.steps + 1 < 2 ^ 64 }
@@ -177,13 +217,13 @@ impl NodeCursor {
     {
         self.go(node);
         match side {
-            Side::Left => nodes.set_left(node, to),
-            Side::Right => nodes.set_right(node, to),
+            Side::Left => nodes.nodes.set_left(node, to),
+            Side::Right => nodes.nodes.set_right(node, to),
         }
     }
 
     /// Goes to a node and sets its colour.
-    pub fn set_red<N: NodesMut>(&mut self, nodes: &mut N, node: u64, red: bool)
+    pub fn set_red<N: NodesMut>(&mut self, nodes: &mut CountedNodes<N>, node: u64, red: bool)
         requires node { N.is_node nodes.old node ≡ true }
         requires no_overflow { self.old.steps + 1 < 2 ^ 64 }
         ensures cells { N.cells nodes.new ≡ with_red (N.cells nodes.old) node red }
@@ -194,7 +234,7 @@ impl NodeCursor {
         ensures unchanged { self.old.at ≡ Some node → self.new.steps ≡ self.old.steps }
         ensures progress_on_step { self.old.at ≢ Some node → self.new.steps ≡ self.old.steps + 1 }
     {
-        nodes.set_red(node, red);
+        nodes.nodes.set_red(node, red);
         self.go(node);
     }
 }

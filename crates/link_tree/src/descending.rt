@@ -1,11 +1,11 @@
 //! The search that all calls share. It goes down a tree and folds a value over the nodes of its path.
 
-ghost use Rattle.std.specs.Prelude.{◌≡◌, ℕ, ◌+◌, ◌*◌, ◌≤◌, Bool, true, Option, Some, length};
+ghost use Rattle.std.specs.Prelude.{◌≡◌, ℕ, ◌+◌, ◌*◌, ◌≤◌, ◌<◌, ◌^◌, Bool, true, Option, Some, length};
 ghost use Rattle.link_tree.specs.Tree.{Tree, IsSearchTree, nodes_of, bits};
 ghost use Rattle.link_tree.specs.Nodes.{leads};
 ghost use Rattle.link_tree.specs.Searching.{path_length, noted};
 
-use crate::cursor::{NodeCursor, Side};
+use crate::cursor::{CountedNodes, NodeCursor, Side, count_steps};
 use crate::nodes::Nodes;
 
 /// A value that a search folds over the nodes of its path.
@@ -15,9 +15,19 @@ pub trait PathFold: Copy {
     ghost passed: { Self → ℕ → Bool → Bool → Self };
 
     /// Returns the value after the node at which the search stands. It reads no other node, so it takes no step.
-    fn fold_node<N: Nodes>(self, nodes: &N, node: u64, before: bool) -> Self
-        requires { N.is_node nodes.now node ≡ true }
-        ensures { result ≡ passed self node (N.cells nodes.now node).red before };
+    fn fold_node<N: Nodes>(
+        self,
+        nodes: &CountedNodes<N>,
+        visits: &mut NodeCursor,
+        node: u64,
+        before: bool,
+    ) -> Self
+        requires node { N.is_node nodes.now node ≡ true }
+        requires position { visits.old.at ≡ Some node }
+        requires no_overflow { visits.old.steps + 1 < 2 ^ 64 }
+        ensures value { result ≡ passed self node (N.cells nodes.now node).red before }
+        ensures position { visits.new.at ≡ Some node }
+        ensures unchanged { visits.new.steps ≡ visits.old.steps };
 }
 
 /// The result of a search: the folded value, and the steps.
@@ -46,20 +56,20 @@ pub fn descend<N: Nodes, K: PathFold>(
     ensures steps_exact { (t : Tree) → IsSearchTree (N.order nodes.now) (N.cells nodes.now) root t
         → result.steps ≡ path_length (N.before nodes.now probe.now) t }
 {
-    let mut visits = NodeCursor::new();
+    let (nodes, mut visits) = count_steps(nodes);
     let mut link = root;
     let mut folded = start;
     while let Some(node) = link {
-        let before = visits.before_probe(nodes, node, probe);
-        folded = folded.fold_node(nodes, node, before);
+        let before = visits.before_probe(&nodes, node, probe);
+        folded = folded.fold_node(&nodes, &mut visits, node, before);
         if before {
-            link = visits.child(nodes, node, Side::Right);
+            link = visits.child(&nodes, node, Side::Right);
         } else {
-            link = visits.child(nodes, node, Side::Left);
+            link = visits.child(&nodes, node, Side::Left);
         }
     }
     Descent {
         folded,
-        steps: visits.steps,
+        steps: visits.steps(),
     }
 }

@@ -10,7 +10,7 @@ ghost use Rattle.link_tree.specs.Ways.{insert_point_of};
 ghost use Rattle.link_tree.specs.Frame.{SameExceptCells};
 
 use crate::change_points::find_insert_point;
-use crate::cursor::{NodeCursor, Side};
+use crate::cursor::{CountedNodes, NodeCursor, Side, count_steps};
 use crate::nodes::NodesMut;
 use crate::rotation::{fix_double_red, paint};
 use crate::search_adaptors::SearchForNode;
@@ -25,7 +25,12 @@ pub struct TreeChange {
 }
 
 /// Gives the node this colour and sets both of its links to none.
-fn make_leaf<N: NodesMut>(nodes: &mut N, visits: &mut NodeCursor, node: u64, red: bool)
+fn make_leaf<N: NodesMut>(
+    nodes: &mut CountedNodes<N>,
+    visits: &mut NodeCursor,
+    node: u64,
+    red: bool,
+)
     requires node { N.is_node nodes.old node ≡ true }
     requires no_overflow { visits.old.steps + 3 < 2 ^ 64 }
     ensures layout { BecomesTree (N.cells nodes.old) (N.cells nodes.new) (node ∷ [])
@@ -41,7 +46,12 @@ fn make_leaf<N: NodesMut>(nodes: &mut N, visits: &mut NodeCursor, node: u64, red
 }
 
 /// Inserts the node into the tree whose root is `at` and returns the root of the new tree.
-fn insert_below<N: NodesMut>(nodes: &mut N, visits: &mut NodeCursor, at: u64, node: u64) -> u64
+fn insert_below<N: NodesMut>(
+    nodes: &mut CountedNodes<N>,
+    visits: &mut NodeCursor,
+    at: u64,
+    node: u64,
+) -> u64
     requires top { N.is_node nodes.old at ≡ true }
     requires node { N.is_node nodes.old node ≡ true }
     requires tree { (t : Tree) × CanInsert (N.order nodes.old) (N.cells nodes.old) (Some at) node t
@@ -70,7 +80,7 @@ fn insert_below<N: NodesMut>(nodes: &mut N, visits: &mut NodeCursor, at: u64, no
 
 /// Inserts the node into the tree behind the link and returns the root of the new tree.
 fn insert_behind<N: NodesMut>(
-    nodes: &mut N,
+    nodes: &mut CountedNodes<N>,
     visits: &mut NodeCursor,
     link: Option<u64>,
     node: u64,
@@ -94,6 +104,49 @@ fn insert_behind<N: NodesMut>(
         return node;
     };
     insert_below(nodes, visits, at, node)
+}
+
+/// Inserts the node, beginning at the `entry` that `find_entry` returned, and returns the root.
+fn insert_from<N: NodesMut>(
+    nodes: &mut CountedNodes<N>,
+    visits: &mut NodeCursor,
+    root: Option<u64>,
+    entry: Option<u64>,
+    node: u64,
+) -> Option<u64>
+    requires position { visits.old.at ≡ None }
+    requires steps { visits.old.steps ≡ 0 }
+    requires root { leads (N.is_node nodes.old) root ≡ true }
+    requires node { N.is_node nodes.old node ≡ true }
+    requires tree { (t : Tree) × IsSearchTree (N.order nodes.old) (N.cells nodes.old) root t
+        × IsTrue (is_ordered_with (N.order nodes.old) node (nodes_of t))
+        × IfSome entry (λ n. insert_point_of (λ m. not (N.order nodes.old node m)) t ≡ Some n) }
+    ensures tree { (t : Tree) → IsSearchTree (N.order nodes.old) (N.cells nodes.old) root t
+        → (after_insert : Tree) × IsSearchTree (N.order nodes.new) (N.cells nodes.new) result after_insert
+        × (nodes_of after_insert ≡ insert_in_order (N.order nodes.old) node (nodes_of t)) }
+    ensures frame { (t : Tree) → IsSearchTree (N.order nodes.old) (N.cells nodes.old) root t
+        → (m : ℕ) → m ≢ node → is_in m (nodes_of t) ≡ false
+        → N.cells nodes.new m ≡ N.cells nodes.old m }
+    ensures steps { (t : Tree) → IsSearchTree (N.order nodes.old) (N.cells nodes.old) root t
+        → visits.new.steps ≤ 28 * bits (length (nodes_of t) + 1) + 32 }
+    ensures steps_lower { 0 < visits.new.steps }
+    ensures root { leads (N.is_node nodes.new) result ≡ true }
+    ensures keeper { SameExceptCells N.Nodes nodes.old nodes.new }
+{
+    if let Some(start) = entry {
+        // the insertion leaves no red node under a red one below `start`, so `start` needs no repair
+        let way = visits.toward(nodes, node, start);
+        let child = insert_behind(nodes, visits, way.link, node);
+        visits.set_child(nodes, start, way.side, Some(child));
+        return root;
+    }
+    let Some(top) = root else {
+        make_leaf(nodes, visits, node, false);
+        return Some(node);
+    };
+    let risen = insert_below(nodes, visits, top, node);
+    paint(nodes, visits, Some(risen), false);
+    Some(risen)
 }
 
 /// Inserts the node, beginning at the `entry` that `find_entry` returned.
@@ -131,29 +184,12 @@ pub fn insert_at<N: NodesMut>(
     // state stay.
     ensures keeper { SameExceptCells N.Nodes nodes.old nodes.new }
 {
-    let mut visits = NodeCursor::new();
-    if let Some(start) = entry {
-        // the insertion leaves no red node under a red one below `start`, so `start` needs no repair
-        let way = visits.toward(nodes, node, start);
-        let child = insert_behind(nodes, &mut visits, way.link, node);
-        visits.set_child(nodes, start, way.side, Some(child));
-        return TreeChange {
-            root,
-            steps: visits.steps,
-        };
-    }
-    let Some(top) = root else {
-        make_leaf(nodes, &mut visits, node, false);
-        return TreeChange {
-            root: Some(node),
-            steps: visits.steps,
-        };
-    };
-    let risen = insert_below(nodes, &mut visits, top, node);
-    paint(nodes, &mut visits, Some(risen), false);
+    let (mut counted, mut visits) = count_steps(nodes);
+    let root = insert_from(&mut counted, &mut visits, root, entry, node);
+    let _nodes = counted.into_nodes();
     TreeChange {
-        root: Some(risen),
-        steps: visits.steps,
+        root,
+        steps: visits.steps(),
     }
 }
 

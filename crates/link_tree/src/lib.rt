@@ -14,6 +14,7 @@ mod descending;
 mod insertion;
 mod listing;
 mod nodes;
+mod references;
 mod removing;
 mod rotation;
 mod search_adaptors;

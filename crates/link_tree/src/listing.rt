@@ -6,7 +6,7 @@ ghost use Rattle.link_tree.specs.Nodes.{leads};
 ghost use Rattle.link_tree.specs.Listing.{IsLowSearchTree, Lists, filled, nodes_from};
 
 use crate::checking::MAX_HEIGHT;
-use crate::cursor::{NodeCursor, Side};
+use crate::cursor::{CountedNodes, NodeCursor, Side, count_steps};
 use crate::nodes::Nodes;
 
 /// The result of a listing: how many nodes the list has, and the number of steps.
@@ -21,7 +21,7 @@ pub struct Listing {
 /// Appends the nodes behind the link, down to `levels` levels, to a list that has `count` nodes so far. Returns its new
 /// count.
 fn list_below<N: Nodes>(
-    nodes: &N,
+    nodes: &CountedNodes<N>,
     visits: &mut NodeCursor,
     link: Option<u64>,
     list: &mut [u64],
@@ -56,7 +56,7 @@ fn list_below<N: Nodes>(
 /// Writes the nodes behind the link that do not precede the probe to the first places of the list, down to `levels`
 /// levels. Returns how many it wrote. It compares only nodes of the path to the first of them.
 fn list_from<N: Nodes>(
-    nodes: &N,
+    nodes: &CountedNodes<N>,
     visits: &mut NodeCursor,
     link: Option<u64>,
     probe: &N::Probe,
@@ -107,10 +107,10 @@ pub fn list_nodes_from<N: Nodes>(
     ensures steps { (t : Tree) → IsSearchTree (N.order nodes.now) (N.cells nodes.now) root t
         → result.steps ≤ result.count + 4 * bits (length (nodes_of t) + 1) }
 {
-    let mut visits = NodeCursor::new();
-    let count = list_from(nodes, &mut visits, root, probe, list, MAX_HEIGHT);
+    let (nodes, mut visits) = count_steps(nodes);
+    let count = list_from(&nodes, &mut visits, root, probe, list, MAX_HEIGHT);
     Listing {
         count,
-        steps: visits.steps,
+        steps: visits.steps(),
     }
 }

@@ -10,7 +10,7 @@ ghost use Rattle.link_tree.specs.Shrinking.{without_least, uprooted, after_remov
 ghost use Rattle.link_tree.specs.Ways.{remove_point_of};
 ghost use Rattle.link_tree.specs.Frame.{SameExceptCells};
 
-use crate::cursor::{NodeCursor, Side};
+use crate::cursor::{CountedNodes, NodeCursor, Side, count_steps};
 use crate::insertion::TreeChange;
 use crate::nodes::NodesMut;
 use crate::rotation::{fix_double_red, is_red, paint, rotate};
@@ -32,7 +32,12 @@ struct Least {
 /// Moves a black node from this side, the heavy one, to the other side of `top` if that side lost one.
 ///
 /// Jean-Christophe Filliâtre and Pierre Letouzey, Functors for Proofs and Programs, 2004.
-fn mend<N: NodesMut>(nodes: &mut N, visits: &mut NodeCursor, top: u64, side: Side) -> Leftover
+fn mend<N: NodesMut>(
+    nodes: &mut CountedNodes<N>,
+    visits: &mut NodeCursor,
+    top: u64,
+    side: Side,
+) -> Leftover
     requires node { N.is_node nodes.old top ≡ true }
     requires position { visits.old.at ≡ Some top }
     requires no_overflow { visits.old.steps + 22 < 2 ^ 64 }
@@ -75,7 +80,7 @@ fn mend<N: NodesMut>(nodes: &mut N, visits: &mut NodeCursor, top: u64, side: Sid
 
 /// Links the changed subtree to its parent on this side, and rebalances the parent.
 fn settle<N: NodesMut>(
-    nodes: &mut N,
+    nodes: &mut CountedNodes<N>,
     visits: &mut NodeCursor,
     parent: u64,
     side: Side,
@@ -108,7 +113,7 @@ fn settle<N: NodesMut>(
 
 /// Replaces a node of this colour, which has only one subtree, by that subtree.
 fn sink<N: NodesMut>(
-    nodes: &mut N,
+    nodes: &mut CountedNodes<N>,
     visits: &mut NodeCursor,
     red: bool,
     link: Option<u64>,
@@ -144,7 +149,7 @@ fn sink<N: NodesMut>(
 }
 
 /// Removes the first node from the tree below `at`.
-fn take_least<N: NodesMut>(nodes: &mut N, visits: &mut NodeCursor, at: u64) -> Least
+fn take_least<N: NodesMut>(nodes: &mut CountedNodes<N>, visits: &mut NodeCursor, at: u64) -> Least
     requires node { N.is_node nodes.old at ≡ true }
     // The way down to the node is then one step, which pays for the work at the node on the way back.
     requires exclusive { visits.old.at ≢ Some at }
@@ -178,7 +183,7 @@ fn take_least<N: NodesMut>(nodes: &mut N, visits: &mut NodeCursor, at: u64) -> L
 }
 
 /// Removes the root of a tree. The next node takes its place by links; no node is copied.
-fn uproot<N: NodesMut>(nodes: &mut N, visits: &mut NodeCursor, at: u64) -> Leftover
+fn uproot<N: NodesMut>(nodes: &mut CountedNodes<N>, visits: &mut NodeCursor, at: u64) -> Leftover
     requires node { N.is_node nodes.old at ≡ true }
     requires tree { (t : Tree) × IsOrderedTree (N.order nodes.old) (N.cells nodes.old) (Some at) t
         × (visits.old.steps + 15 * height t + 60 < 2 ^ 64) }
@@ -204,7 +209,7 @@ fn uproot<N: NodesMut>(nodes: &mut N, visits: &mut NodeCursor, at: u64) -> Lefto
 
 /// Removes the node from the tree behind the link.
 fn cut<N: NodesMut>(
-    nodes: &mut N,
+    nodes: &mut CountedNodes<N>,
     visits: &mut NodeCursor,
     link: Option<u64>,
     node: u64,
@@ -235,6 +240,40 @@ fn cut<N: NodesMut>(
     let way = visits.toward(nodes, node, at);
     let below = cut(nodes, visits, way.link, node);
     settle(nodes, visits, at, way.side, below)
+}
+
+/// Removes the node, beginning at the `exit` that `find_remove_point` returned, and returns the root.
+fn remove_from<N: NodesMut>(
+    nodes: &mut CountedNodes<N>,
+    visits: &mut NodeCursor,
+    root: Option<u64>,
+    exit: Option<u64>,
+    node: u64,
+) -> Option<u64>
+    requires position { visits.old.at ≡ None }
+    requires steps { visits.old.steps ≡ 0 }
+    requires root { leads (N.is_node nodes.old) root ≡ true }
+    requires tree { (t : Tree) × IsSearchTree (N.order nodes.old) (N.cells nodes.old) root t
+        × IsTrue (is_in node (nodes_of t))
+        × IfSome exit (λ n. remove_point_of (N.order nodes.old) node t ≡ Some n) }
+    ensures tree { (t : Tree) → IsSearchTree (N.order nodes.old) (N.cells nodes.old) root t
+        → (after_remove : Tree) × IsSearchTree (N.order nodes.new) (N.cells nodes.new) result after_remove
+        × (nodes_of after_remove ≡ without node (nodes_of t)) }
+    ensures frame { (t : Tree) → IsSearchTree (N.order nodes.old) (N.cells nodes.old) root t
+        → (m : ℕ) → is_in m (nodes_of t) ≡ false → N.cells nodes.new m ≡ N.cells nodes.old m }
+    ensures steps { (t : Tree) → IsSearchTree (N.order nodes.old) (N.cells nodes.old) root t
+        → visits.new.steps ≤ 30 * bits (length (nodes_of t) + 1) + 32 }
+    ensures steps_lower { 0 < visits.new.steps }
+    ensures root { leads (N.is_node nodes.new) result ≡ true }
+    ensures keeper { SameExceptCells N.Nodes nodes.old nodes.new }
+{
+    if let Some(start) = exit {
+        cut(nodes, visits, Some(start), node);
+        return root;
+    }
+    let rest = cut(nodes, visits, root, node);
+    paint(nodes, visits, rest.root, false);
+    rest.root
 }
 
 /// Removes the node, beginning at the `exit` that `find_remove_point` returned.
@@ -269,19 +308,12 @@ pub fn remove_at<N: NodesMut>(
     // state stay.
     ensures keeper { SameExceptCells N.Nodes nodes.old nodes.new }
 {
-    let mut visits = NodeCursor::new();
-    if let Some(start) = exit {
-        cut(nodes, &mut visits, Some(start), node);
-        return TreeChange {
-            root,
-            steps: visits.steps,
-        };
-    }
-    let rest = cut(nodes, &mut visits, root, node);
-    paint(nodes, &mut visits, rest.root, false);
+    let (mut counted, mut visits) = count_steps(nodes);
+    let root = remove_from(&mut counted, &mut visits, root, exit, node);
+    let _nodes = counted.into_nodes();
     TreeChange {
-        root: rest.root,
-        steps: visits.steps,
+        root,
+        steps: visits.steps(),
     }
 }
 

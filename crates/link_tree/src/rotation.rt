@@ -7,11 +7,11 @@ ghost use Rattle.link_tree.specs.Turning.{BecomesTree, rotated, painted, flipped
 ghost use Rattle.link_tree.specs.Sides.{opposite, child_of};
 ghost use Rattle.link_tree.specs.Frame.{SameExceptCells};
 
-use crate::cursor::{NodeCursor, Side};
+use crate::cursor::{CountedNodes, NodeCursor, Side};
 use crate::nodes::{Nodes, NodesMut};
 
 /// Returns true if the link leads to a red node.
-pub fn is_red<N: Nodes>(nodes: &N, visits: &mut NodeCursor, link: Option<u64>) -> bool
+pub fn is_red<N: Nodes>(nodes: &CountedNodes<N>, visits: &mut NodeCursor, link: Option<u64>) -> bool
     requires link { leads (N.is_node nodes.now) link ≡ true }
     requires no_overflow { visits.old.steps + 1 < 2 ^ 64 }
     ensures value { (t : Tree) → IsTree (N.cells nodes.now) link t
@@ -26,7 +26,12 @@ pub fn is_red<N: Nodes>(nodes: &N, visits: &mut NodeCursor, link: Option<u64>) -
 }
 
 /// Sets the root's colour, if there is a root.
-pub fn paint<N: NodesMut>(nodes: &mut N, visits: &mut NodeCursor, link: Option<u64>, red: bool)
+pub fn paint<N: NodesMut>(
+    nodes: &mut CountedNodes<N>,
+    visits: &mut NodeCursor,
+    link: Option<u64>,
+    red: bool,
+)
     requires link { leads (N.is_node nodes.old) link ≡ true }
     requires no_overflow { visits.old.steps + 1 < 2 ^ 64 }
     ensures colour { (t : Tree) → IsTree (N.cells nodes.old) link t
@@ -42,7 +47,12 @@ pub fn paint<N: NodesMut>(nodes: &mut N, visits: &mut NodeCursor, link: Option<u
 }
 
 /// Rotates the tree so that the child on this side becomes the root, and returns the child.
-pub fn rotate<N: NodesMut>(nodes: &mut N, visits: &mut NodeCursor, top: u64, side: Side) -> u64
+pub fn rotate<N: NodesMut>(
+    nodes: &mut CountedNodes<N>,
+    visits: &mut NodeCursor,
+    top: u64,
+    side: Side,
+) -> u64
     requires node { N.is_node nodes.old top ≡ true }
     requires no_overflow { visits.old.steps + 3 < 2 ^ 64 }
     ensures rotation { (t : Tree) → IsTree (N.cells nodes.old) (Some top) t
@@ -66,7 +76,7 @@ pub fn rotate<N: NodesMut>(nodes: &mut N, visits: &mut NodeCursor, top: u64, sid
 
 /// Makes a node red and its children black.
 fn flip_colours<N: NodesMut>(
-    nodes: &mut N,
+    nodes: &mut CountedNodes<N>,
     visits: &mut NodeCursor,
     top: u64,
     near: u64,
@@ -97,7 +107,7 @@ fn flip_colours<N: NodesMut>(
 /// Rotations: Chris Okasaki, Red-Black Trees in a Functional Setting, 1999. Colours: Cormen, Leiserson, Rivest and
 /// Stein, Introduction to Algorithms, chapter 13.
 pub fn fix_double_red<N: NodesMut>(
-    nodes: &mut N,
+    nodes: &mut CountedNodes<N>,
     visits: &mut NodeCursor,
     top: u64,
     side: Side,

@@ -7,6 +7,7 @@ ghost use Rattle.link_tree.specs.Tree.{Tree, IsSearchTree, nodes_of, bits};
 ghost use Rattle.link_tree.specs.Nodes.{leads, first_not_before, last_before};
 ghost use Rattle.link_tree.specs.Searching.{path_length};
 
+use crate::cursor::{CountedNodes, NodeCursor};
 use crate::descending::{PathFold, descend};
 use crate::nodes::Nodes;
 use crate::search_adaptors::SearchToEnd;
@@ -29,7 +30,13 @@ struct First {
 impl PathFold for First {
     ghost passed = { λ folded n red before. record { node = if before then folded.node else Some n } };
 
-    fn fold_node<N: Nodes>(self, _nodes: &N, node: u64, before: bool) -> First {
+    fn fold_node<N: Nodes>(
+        self,
+        _nodes: &CountedNodes<N>,
+        _visits: &mut NodeCursor,
+        node: u64,
+        before: bool,
+    ) -> First {
         if before {
             return self;
         }
@@ -46,7 +53,13 @@ struct Last {
 impl PathFold for Last {
     ghost passed = { λ folded n red before. record { node = if before then Some n else folded.node } };
 
-    fn fold_node<N: Nodes>(self, _nodes: &N, node: u64, before: bool) -> Last {
+    fn fold_node<N: Nodes>(
+        self,
+        _nodes: &CountedNodes<N>,
+        _visits: &mut NodeCursor,
+        node: u64,
+        before: bool,
+    ) -> Last {
         if before {
             return Last { node: Some(node) };
         }

@@ -7,12 +7,12 @@ ghost use Rattle.link_tree.specs.Nodes.{leads, is_in};
 ghost use Rattle.link_tree.specs.Walking.{IsAhead};
 
 use crate::checking::MAX_HEIGHT;
-use crate::cursor::{NodeCursor, Side};
+use crate::cursor::{CountedNodes, NodeCursor, Side, count_steps};
 use crate::nodes::Nodes;
 
 /// Visits the nodes behind the link in order, down to `levels` levels.
 fn walk_below<N: Nodes, F: FnMut(u64)>(
-    nodes: &N,
+    nodes: &CountedNodes<N>,
     visits: &mut NodeCursor,
     link: Option<u64>,
     visit: &mut F,
@@ -56,7 +56,7 @@ pub fn walk<N: Nodes, F: FnMut(u64)>(nodes: &N, root: Option<u64>, visit: &mut F
     ensures steps { (t : Tree) → IsSearchTree (N.order nodes.now) (N.cells nodes.now) root t
         → result ≡ length (nodes_of t) }
 {
-    let mut visits = NodeCursor::new();
-    walk_below(nodes, &mut visits, root, visit, MAX_HEIGHT);
-    visits.steps
+    let (nodes, mut visits) = count_steps(nodes);
+    walk_below(&nodes, &mut visits, root, visit, MAX_HEIGHT);
+    visits.steps()
 }

@@ -36,13 +36,13 @@ returns-then-not-red-clause-entry g c = λ t k.
     let s = c.args.nodes.now in
     let e = ends g s (g.N.Nodes.before s c.args.probe.now) c.args.root (Some c.in-Some.node)
     (rw c.in-Some.is at c.requires.tree) t k in
-    let black : (g.N.Nodes.cells s c.in-Some.node).red ≡ false =
-    sym c.red.ensures.value ∙ c.if-not-red.true in
+    let red = rw c.count_steps-counted.ensures.nodes at c.red.ensures.value in
+    let black : (g.N.Nodes.cells s c.in-Some.node).red ≡ false = sym red ∙ c.if-not-red.true in
     sym (e.black black)
 
 pub returns-then-not-red-clause-steps : goal.returns-then-not-red-clause-steps
 returns-then-not-red-clause-steps g c = λ t k.
-    omega (arith, c.red.ensures.steps_upper, c.new-visits.ensures.steps, height_bits t k.red_black)
+    omega (arith, c.red.ensures.steps_upper, c.count_steps-counted.ensures.steps, height_bits t k.red_black)
 
 pub overflow_add-result : goal.overflow_add-result
 overflow_add-result g c =
@@ -51,11 +51,11 @@ overflow_add-result g c =
     let low = low_tree g.met.N.Nodes s t.1 c.requires.root in
     let path = path_low (g.N.Nodes.before s c.args.probe.now) t.0 in
     let exact = c.find_insert_point-way.ensures.steps_exact t.0 t.1 in
-    omega (arith, c.red.ensures.steps_upper, c.new-visits.ensures.steps)
+    omega (arith, c.red.ensures.steps_upper, c.count_steps-counted.ensures.steps)
 
 pub returns-clause-steps : goal.returns-clause-steps
 returns-clause-steps g c = λ t k.
     let s = c.args.nodes.now in
     let path = path_low (g.N.Nodes.before s c.args.probe.now) t in
     let exact = c.find_insert_point-way.ensures.steps_exact t k in
-    omega (arith, c.red.ensures.steps_upper, c.new-visits.ensures.steps, height_bits t k.red_black)
+    omega (arith, c.red.ensures.steps_upper, c.count_steps-counted.ensures.steps, height_bits t k.red_black)

@@ -22,26 +22,29 @@ list_from-count-requires-clause-tree g c =
     let s = c.args.nodes.now in
     let k = c.requires.tree in
     let low = low_tree g.met.N.Nodes s k.1 c.requires.root in
-    let zero = c.new-visits.ensures.steps in
-    (k.0, below g s c.args.root k.0 k.1 c.requires.root, omega arith)
+    let zero = c.count_steps-nodes.ensures.steps in
+    rw c.count_steps-nodes.ensures.nodes (k.0, below g s c.args.root k.0 k.1 c.requires.root, omega arith)
 
 pub returns-clause-list : goal.returns-clause-list
 returns-clause-list g c = λ t k.
     let s = c.args.nodes.now in
-    let a = c.list_from-count.ensures.listing t (below g s c.args.root t k c.requires.root) in
+    let listing = rw c.count_steps-nodes.ensures.nodes at c.list_from-count.ensures.listing in
+    let a = listing t (below g s c.args.root t k c.requires.root) in
     a.listed ∙ filled_is c.args.list.now (nodes_from (g.N.Nodes.before s c.args.probe.now) (nodes_of t))
 
 pub returns-clause-count : goal.returns-clause-count
 returns-clause-count g c = λ t k.
     let s = c.args.nodes.now in
-    let many = (c.list_from-count.ensures.listing t (below g s c.args.root t k c.requires.root)).many in
+    let listing = rw c.count_steps-nodes.ensures.nodes at c.list_from-count.ensures.listing in
+    let many = (listing t (below g s c.args.root t k c.requires.root)).many in
     omega arith
 
 pub returns-clause-steps : goal.returns-clause-steps
 returns-clause-steps g c = λ t k.
     let s = c.args.nodes.now in
-    let path = (c.list_from-count.ensures.listing t (below g s c.args.root t k c.requires.root)).path in
-    let zero = c.new-visits.ensures.steps in
+    let listing = rw c.count_steps-nodes.ensures.nodes at c.list_from-count.ensures.listing in
+    let path = (listing t (below g s c.args.root t k c.requires.root)).path in
+    let zero = c.count_steps-nodes.ensures.steps in
     let high = bounds_height t k.red_black in
     let skips = skipped_height (g.N.Nodes.before s c.args.probe.now) t in
     omega arith

@@ -20,18 +20,21 @@ walk_below-requires-clause-tree g c =
     let s = c.args.nodes.now in
     let t = c.requires.tree in
     let low = low_tree g.met.N.Nodes s t.1 c.requires.root in
-    let zero = c.new-visits.ensures.steps in
-    (t.0, ahead g s c.args.root _ t.0 t.1 c.requires.root c.new-visits.ensures.position, omega arith)
+    let zero = c.count_steps-nodes.ensures.steps in
+    rw c.count_steps-nodes.ensures.nodes
+    (t.0, ahead g s c.args.root _ t.0 t.1 c.requires.root c.count_steps-nodes.ensures.position, omega arith)
 
 pub returns : goal.returns
 returns g c = record {
   walk = λ u k.
-      c.walk_below.ensures.walk u
-      (ahead g c.args.nodes.now c.args.root _ u k c.requires.root c.new-visits.ensures.position);
+      let folds = rw c.count_steps-nodes.ensures.nodes at c.walk_below.ensures.walk in
+      folds u
+      (ahead g c.args.nodes.now c.args.root _ u k c.requires.root c.count_steps-nodes.ensures.position);
   callable = c.walk_below.ensures.callable;
   steps = λ u k.
-      let zero = c.new-visits.ensures.steps in
-      let spent = c.walk_below.ensures.steps u
-      (ahead g c.args.nodes.now c.args.root _ u k c.requires.root c.new-visits.ensures.position) in
+      let zero = c.count_steps-nodes.ensures.steps in
+      let steps = rw c.count_steps-nodes.ensures.nodes at c.walk_below.ensures.steps in
+      let spent = steps u
+      (ahead g c.args.nodes.now c.args.root _ u k c.requires.root c.count_steps-nodes.ensures.position) in
       omega arith;
 }

@@ -1,2 +1,3 @@
--- The laws: logs that are made with the rights of their file count (`Made`).
+-- The laws: no other mode is wider (`Widest`), and logs that are made with the rights of their file count (`Made`).
+pub mod Widest
 pub mod Made

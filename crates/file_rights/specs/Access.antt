@@ -1,8 +1,10 @@
 -- Who may do what with a file, as acl(5) checks it. Root, who may do everything, is left out.
 use Rattle.std.specs.Prelude.{◌≡◌, ◌≢◌, ℕ, Bool, true, false, ◌&&◌, ◌||◌, ◌==◌, if◌then◌else◌, List, [], ◌∷◌}
 use Rattle.std.specs.Prelude.{Option, Some, None}
+use Rattle.file_rights.specs.declared.access_lists.ListEntry.{ListEntry}
 use Rattle.file_rights.specs.declared.rights.Rights.{Rights}
-use Rattle.file_rights.specs.Rights.{no_rights, all_rights, common, covers, to_read, to_write, to_execute}
+use Rattle.file_rights.specs.Rights.{no_rights, common, covers, to_read, to_write, to_execute}
+use Rattle.file_rights.specs.AccessLists.{first_rights, mask_of, or_else}
 use Rattle.file_rights.specs.Modes.{classes_of}
 
 -- a user: his number, and the groups that he is in
@@ -10,33 +12,12 @@ pub record User : Type 0 where
   pub uid : ℕ
   pub is_in : ℕ → Bool
 
--- an entry of an access list: 1 is for the owner, 2 for a named user, 4 for the owning group, 8 for a named group, 16
--- is the mask, 32 is for the others; the number is that of the named user or group
-pub record ListEntry : Type 0 where
-  pub tag : ℕ
-  pub rights : Rights
-  pub number : ℕ
-
 -- a file: its owner, its group, its mode, and its access list if it has one
 pub record OwnedFile : Type 0 where
   pub owner : ℕ
   pub group : ℕ
   pub mode : ℕ
   pub list : Option (List ListEntry)
-
--- the rights in an entry that may be there
-abbrev pub or_else : Rights → Option Rights → Rights
-or_else other None = other
-or_else other (Some rights) = rights
-
--- the rights in the first entry with a tag
-abbrev pub first_rights : ℕ → List ListEntry → Option Rights
-first_rights tag [] = None
-first_rights tag (entry ∷ entries) = if entry.tag == tag then Some entry.rights else first_rights tag entries
-
--- what the mask leaves; without a mask entry all
-abbrev pub mask_of : List ListEntry → Rights
-mask_of entries = or_else all_rights (first_rights 16 entries)
 
 -- the rights in the first entry that names a user
 abbrev pub named_rights : ℕ → List ListEntry → Option Rights

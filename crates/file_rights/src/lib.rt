@@ -3,10 +3,13 @@
 //! gives them, and ask the system for nothing.
 #![tactic(auto)]
 
+mod access_lists;
 mod classes;
 mod log_rights;
+mod narrowing;
 mod rights;
 mod theorems;
 
 pub use log_rights::{Ownership, log_counts, log_mode};
-pub use theorems::log_of_owner_counts;
+pub use narrowing::{AccessList, NewRights, narrowed};
+pub use theorems::{log_of_owner_counts, narrowed_log_counts, new_mode_is_widest};

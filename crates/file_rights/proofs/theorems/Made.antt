@@ -1,10 +1,24 @@
 -- Logs that are made with the rights of their file.
-use Rattle.std.proofs.Common.{◌≡◌, inl, ℕ, sym, ◌∙◌, None}
+use Rattle.std.proofs.Common.{◌≡◌, inl, ℕ, refl, sym, ◌∙◌, None}
+use Rattle.file_rights.specs.declared.narrowing.AccessList.TheVariants.{Absent}
 use Rattle.file_rights.specs.Rights.{to_write}
 use Rattle.file_rights.specs.Access.{may_access}
-use Rattle.file_rights.specs.LogRights.{file_of}
-use Rattle.file_rights.specs.Laws.{LogOfOwnerCounts}
+use Rattle.file_rights.specs.LogRights.{file_of, log_mode}
+use Rattle.file_rights.specs.Laws.{LogOfOwnerCounts, NarrowedLogCounts}
 use Rattle.file_rights.proofs.log_rights.Granting.{grants_as_mode}
+use Rattle.file_rights.proofs.narrowing.Narrow.{mode_narrows}
+
+-- a log with the rights that it gets counts
+pub narrowed_log_counts : NarrowedLogCounts
+narrowed_log_counts file log directory caller has_owner has_group trusted owners groups modes = record {
+  maker = inl trusted;
+  writers = λ user not_owner not_log may.
+      let grants = (grants_as_mode file.mode (log_mode file.mode) refl).write user file.owner file.group in
+      grants.0
+      (mode_narrows (log_mode file.mode) Absent has_owner has_group log.mode modes
+      (record { owner = file.owner; group = file.group; mode = log_mode file.mode; list = None }) log.owner log.group
+      refl refl owners groups user to_write not_log may);
+}
 
 -- a log with the owner, the group and the rights of its file counts
 pub log_of_owner_counts : LogOfOwnerCounts

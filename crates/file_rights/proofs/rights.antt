@@ -1,0 +1,2 @@
+-- Rights: what covers what (`Covering`).
+pub mod Covering

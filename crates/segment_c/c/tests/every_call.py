@@ -104,9 +104,9 @@ def names():
     same(s.free, 784)
     same(s.info("a"), ("named", "a", "i64", 1, 192))
     same(s.find("i64", "a").handle, 192)
-    raises(zaluxhoni.WrongKind, s.find, "u8", "a")
+    raises(zaluxhoni.WrongKindError, s.find, "u8", "a")
     same(s.find("i64", "b"), None)
-    raises(zaluxhoni.Exists, s.construct, "u8", "a", 1)
+    raises(zaluxhoni.ExistsError, s.construct, "u8", "a", 1)
     same(s.find_or_construct("i64[3]", "a", 9).handle, 192)
     same(list(s.object("a")), [5])
     s = saved(s, "names")
@@ -118,7 +118,7 @@ def names():
 
 def index_and_object_do_not_both_fit():
     s = create(224)
-    raises(zaluxhoni.NoSpace, s.construct, "i64", "a", 5)
+    raises(zaluxhoni.NoSpaceError, s.construct, "i64", "a", 5)
     same(s.free, 80)
     same(s.construct("i64", None, 5).handle, 144)
     same(s.free, 32)
@@ -130,23 +130,23 @@ def arrays():
     same(v.handle, 192)
     same(list(v), [7, 7, 7])
     same(s.free, 768)
-    raises(zaluxhoni.BadCount, s.construct, "i64[3]", "w", [1, 2])
-    raises(zaluxhoni.BadValue, s.construct, "u8", "x", 300)
+    raises(zaluxhoni.BadCountError, s.construct, "i64[3]", "w", [1, 2])
+    raises(zaluxhoni.BadValueError, s.construct, "u8", "x", 300)
     v[1] = 300
     same(v[1], 300)
     same(s["v"][-2], 300)
-    raises(zaluxhoni.OutOfRange, v.__getitem__, 3)
-    raises(zaluxhoni.OutOfRange, v.__getitem__, -4)
-    raises(zaluxhoni.WrongKind, set_item, v, 0, True)
+    raises(zaluxhoni.OutOfRangeError, v.__getitem__, 3)
+    raises(zaluxhoni.OutOfRangeError, v.__getitem__, -4)
+    raises(zaluxhoni.WrongKindError, set_item, v, 0, True)
     s.construct("i32[2]", "w", [1, -2])
     same(s["w"], [1, -2])
     same(s["w"][:1], [1])
     s["w"][:] = [3, 4]
     same(s["w"], [3, 4])
     s["w"][:] = [1, -2]
-    raises(zaluxhoni.BadCount, set_item, s["w"], slice(0, 2), [1])
-    raises(zaluxhoni.BadCount, s.construct, "i64[1048577]", "x", 0)
-    raises(zaluxhoni.BadCount, s.construct, "i64[0]", "x", 0)
+    raises(zaluxhoni.BadCountError, set_item, s["w"], slice(0, 2), [1])
+    raises(zaluxhoni.BadCountError, s.construct, "i64[1048577]", "x", 0)
+    raises(zaluxhoni.BadCountError, s.construct, "i64[0]", "x", 0)
     s = saved(s, "arrays")
     same(s["v"], [7, 300, 7])
 
@@ -154,8 +154,8 @@ def arrays():
 def the_only_object_of_its_kind():
     s = create(1024)
     same(s.construct("u64", unique("u64"), 9).handle, 192)
-    raises(zaluxhoni.Exists, s.construct, "u64", unique("u64"), 1)
-    raises(zaluxhoni.WrongKind, s.find, "u8", unique("u64"))
+    raises(zaluxhoni.ExistsError, s.construct, "u64", unique("u64"), 1)
+    raises(zaluxhoni.WrongKindError, s.find, "u8", unique("u64"))
     same(s.info(unique("u64")), ("unique", None, "u64", 1, 192))
     same(s.unique(), [("unique", None, "u64", 1, 192)])
     same(s[unique("u64")], 9)
@@ -187,7 +187,7 @@ def best_fit():
     same(s.destroy(handle(144)), True)
     same(s.destroy(handle(240)), True)
     same(s.construct("i64", None, 2).handle, 144)
-    raises(zaluxhoni.NotFound, s.destroy, handle(240))
+    raises(zaluxhoni.NotFoundError, s.destroy, handle(240))
 
 
 def storage_is_lengthened_then_replaced():
@@ -221,8 +221,8 @@ def a_string_grows_and_shrinks():
     same(s.free, 720)
     same(text[0], 97)
     text[0] = 65
-    raises(zaluxhoni.OutOfRange, text.__getitem__, 17)
-    raises(zaluxhoni.WrongKind, s.vector, "s", "u8")
+    raises(zaluxhoni.OutOfRangeError, text.__getitem__, 17)
+    raises(zaluxhoni.WrongKindError, s.vector, "s", "u8")
     same(bytes(text), b"Abcdefg0123456789")
     same(str(text), "Abcdefg0123456789")
     same(text == "Abcdefg0123456789", True)
@@ -235,8 +235,8 @@ def a_string_grows_and_shrinks():
     same(bytes(text), b"")
     text.trim()
     same(s.free, 768)
-    raises(zaluxhoni.NoSpace, text.assign, "x" * 2000)
-    raises(zaluxhoni.WrongKind, text.assign, 5)
+    raises(zaluxhoni.NoSpaceError, text.assign, "x" * 2000)
+    raises(zaluxhoni.WrongKindError, text.assign, 5)
     text.assign(b"a\0\xff" * 100)
     s = saved(s, "longer")
     text = s.string("s")
@@ -264,16 +264,16 @@ def a_map():
     same(s.free, 480)
     same(m.put(1, 11), False)
     same(m.get(4), None)
-    raises(zaluxhoni.Absent, m.__getitem__, 4)
-    raises(zaluxhoni.Absent, delete_item, m, 4)
+    raises(zaluxhoni.AbsentError, m.__getitem__, 4)
+    raises(zaluxhoni.AbsentError, delete_item, m, 4)
     same((4 in m, 7 in m, 2**64 in m), (False, True, False))
     m[7] = 71
     del m[1]
     same(m == {2: 20, 3: 30, 5: 50, 6: 60, 7: 71}, True)
-    raises(zaluxhoni.WrongKind, s.map, "m", "i32", "i64")
-    raises(zaluxhoni.WrongKind, set_item, m, "7", 1)
-    raises(zaluxhoni.WrongKind, set_item, m, 7, 1.5)
-    raises(zaluxhoni.OutOfRange, set_item, m, 2**63, 1)
+    raises(zaluxhoni.WrongKindError, s.map, "m", "i32", "i64")
+    raises(zaluxhoni.WrongKindError, set_item, m, "7", 1)
+    raises(zaluxhoni.WrongKindError, set_item, m, 7, 1.5)
+    raises(zaluxhoni.OutOfRangeError, set_item, m, 2**63, 1)
     same(m.pop(7), 71)
     # what is changed while it is gone over is seen: it goes on with the next key above
     s.growing = True
@@ -297,11 +297,11 @@ def refusals_of_a_vector():
     same((len(w), w.capacity), (4, 6))
     del w[0]
     same(w.pop(), 3)
-    raises(zaluxhoni.OutOfRange, w.__getitem__, 5)
-    raises(zaluxhoni.WrongKind, set_item, w, 7, True)
-    raises(zaluxhoni.OutOfRange, set_item, w, 0, 3000000000)
-    raises(zaluxhoni.WrongKind, s.string, "w")
-    raises(zaluxhoni.NoSpace, w.reserve, 1000)
+    raises(zaluxhoni.OutOfRangeError, w.__getitem__, 5)
+    raises(zaluxhoni.WrongKindError, set_item, w, 7, True)
+    raises(zaluxhoni.OutOfRangeError, set_item, w, 0, 3000000000)
+    raises(zaluxhoni.WrongKindError, s.string, "w")
+    raises(zaluxhoni.NoSpaceError, w.reserve, 1000)
     same(list(w), [9, 2])
     w.assign([5, -6, 7, 8])
     same((w.pop(0), w.pop(-2), list(w)), (5, 7, [-6, 8]))
@@ -314,14 +314,14 @@ def refusals_of_a_vector():
     same(w, [0, 1, 3, 4])
     w.reverse()
     same((w.index(3), 3 in w, w == [4, 3, 1, 0], w == [4, 3, 1]), (1, True, True, False))
-    raises(zaluxhoni.OutOfRange, w.assign, [3000000000])
-    raises(zaluxhoni.WrongKind, w.assign, [True])
-    raises(zaluxhoni.WrongKind, w.append, "x")
+    raises(zaluxhoni.OutOfRangeError, w.assign, [3000000000])
+    raises(zaluxhoni.WrongKindError, w.assign, [True])
+    raises(zaluxhoni.WrongKindError, w.append, "x")
     w.trim()
     same(w.capacity, 4)
     w.clear()
     same(list(w), [])
-    raises(zaluxhoni.OutOfRange, w.pop)
+    raises(zaluxhoni.OutOfRangeError, w.pop)
 
 
 def a_vector_of_strings():
@@ -334,8 +334,8 @@ def a_vector_of_strings():
     same(v.pop(), "def")
     same(s.free, 624)
     v[0] = ""
-    raises(zaluxhoni.WrongKind, set_item, v, 0, 5)
-    raises(zaluxhoni.WrongKind, v.assign, "abc")
+    raises(zaluxhoni.WrongKindError, set_item, v, 0, 5)
+    raises(zaluxhoni.WrongKindError, v.assign, "abc")
     same(list(v), ["", "bc"])
     s = saved(s, "texts")
     v = s["v"]
@@ -354,8 +354,8 @@ def a_vector_of_strings():
     v.reserve(4)
     v.trim()
     v.clear()
-    raises(zaluxhoni.OutOfRange, v.pop)
-    raises(zaluxhoni.OutOfRange, v.__getitem__, 0)
+    raises(zaluxhoni.OutOfRangeError, v.pop)
+    raises(zaluxhoni.OutOfRangeError, v.__getitem__, 0)
 
 
 # ---- what the examples leave out
@@ -374,7 +374,7 @@ def objects_found_or_made():
     same(s.find_or_construct("map<i32,bool>", "m", {8: False}).handle, first.handle)
     same(dict(s.construct("map<u8,u8>", None, {1: 2})), {1: 2})
     same(dict(s.map("m", "i32", "bool")), {7: True})
-    raises(zaluxhoni.WrongKind, s.find_or_construct, "map<i32,bool>", "string")
+    raises(zaluxhoni.WrongKindError, s.find_or_construct, "map<i32,bool>", "string")
     s.vector("made", "bool").append(True)
     s.map("made too", "u8", "u64")[255] = 2**64 - 1
     s.strings("made as well").append("text")
@@ -397,17 +397,17 @@ def every_kind_of_scalar():
             s[kind] = least
             s[kind] = most
             same(s[kind], most)
-            raises(zaluxhoni.OutOfRange, set_item, s, kind, least - 1)
-            raises(zaluxhoni.OutOfRange, set_item, s, kind, most + 1)
-            raises(zaluxhoni.WrongKind, set_item, s, kind, True)
+            raises(zaluxhoni.OutOfRangeError, set_item, s, kind, least - 1)
+            raises(zaluxhoni.OutOfRangeError, set_item, s, kind, most + 1)
+            raises(zaluxhoni.WrongKindError, set_item, s, kind, True)
             s.vector("vector", kind).assign([least, most])
             same(list(s["vector"]), [least, most])
             del s[kind], s["vector"]
     s.construct("bool", "truth", True)
     same(s["truth"], True)
-    raises(zaluxhoni.WrongKind, set_item, s, "truth", 1)
-    raises(zaluxhoni.BadValue, s.construct, "bool", "other", 1)
-    raises(zaluxhoni.BadValue, s.construct, "i64", "other", True)
+    raises(zaluxhoni.WrongKindError, set_item, s, "truth", 1)
+    raises(zaluxhoni.BadValueError, s.construct, "bool", "other", 1)
+    raises(zaluxhoni.BadValueError, s.construct, "i64", "other", True)
 
 
 def many_at_once():
@@ -422,8 +422,8 @@ def many_at_once():
     a[::2] = [1, 2]
     same(list(a), [1, 20, 2])
     a[3:] = []
-    raises(zaluxhoni.OutOfRange, set_item, a, slice(0, 2), [5, 2**63])
-    raises(zaluxhoni.WrongKind, set_item, a, slice(0, 2), [5, True])
+    raises(zaluxhoni.OutOfRangeError, set_item, a, slice(0, 2), [5, 2**63])
+    raises(zaluxhoni.WrongKindError, set_item, a, slice(0, 2), [5, True])
     same(list(a), [1, 20, 2])
     same(s.find_or_construct("i64[3]", "a", [4, 5, 6])[:], [1, 20, 2])
     same(s.find_or_construct("i64[2]", "n", [4, 5])[:], [4, 5])
@@ -497,11 +497,11 @@ def a_segment_as_a_dict():
     s["pairs"] = {2: 20, 1: 11}
     s["text"] = b"bytes"
     same((list(s["numbers"]), dict(s["pairs"]), s["text"]), ([3], {1: 11, 2: 20}, "bytes"))
-    raises(zaluxhoni.WrongKind, set_item, s, "numbers", ["a"])
-    raises(zaluxhoni.WrongKind, set_item, s, "truths", range(3))
-    raises(zaluxhoni.WrongKind, set_item, s, "new", 1.5)
-    raises(zaluxhoni.NotFound, s.__getitem__, "other")
-    raises(zaluxhoni.NotFound, delete_item, s, "other")
+    raises(zaluxhoni.WrongKindError, set_item, s, "numbers", ["a"])
+    raises(zaluxhoni.WrongKindError, set_item, s, "truths", range(3))
+    raises(zaluxhoni.WrongKindError, set_item, s, "new", 1.5)
+    raises(zaluxhoni.NotFoundError, s.__getitem__, "other")
+    raises(zaluxhoni.NotFoundError, delete_item, s, "other")
     same(s.get("other", 7), 7)
     del s["numbers"]
     same("numbers" in s, False)
@@ -511,35 +511,35 @@ def a_segment_as_a_dict():
 def maps_are_made_whole():
     s = create(1024)
     many, free = {number: 0 for number in range(100)}, s.free
-    raises(zaluxhoni.OutOfRange, set_item, s, "m", {1: 2**64})
-    raises(zaluxhoni.OutOfRange, set_item, s, "m", {1: 10, -2**63 - 1: 20})
-    raises(zaluxhoni.WrongKind, set_item, s, "m", {1: True, 2: 3})
-    raises(zaluxhoni.WrongKind, s.construct, "map<i32,bool>", "m", {1: True, 2: 0})
-    raises(zaluxhoni.OutOfRange, s.find_or_construct, "map<u8,i64>", unique("map<u8,i64>"), {1: 2, 256: 3})
-    raises(zaluxhoni.NoSpace, s.construct, "map<i64,i64>", None, many)
+    raises(zaluxhoni.OutOfRangeError, set_item, s, "m", {1: 2**64})
+    raises(zaluxhoni.OutOfRangeError, set_item, s, "m", {1: 10, -2**63 - 1: 20})
+    raises(zaluxhoni.WrongKindError, set_item, s, "m", {1: True, 2: 3})
+    raises(zaluxhoni.WrongKindError, s.construct, "map<i32,bool>", "m", {1: True, 2: 0})
+    raises(zaluxhoni.OutOfRangeError, s.find_or_construct, "map<u8,i64>", unique("map<u8,i64>"), {1: 2, 256: 3})
+    raises(zaluxhoni.NoSpaceError, s.construct, "map<i64,i64>", None, many)
     same((len(s), s.num_unique, s.free), (0, 0, free))
-    raises(zaluxhoni.NoSpace, s.find_or_construct, "map<i64,i64>", "m", many)
+    raises(zaluxhoni.NoSpaceError, s.find_or_construct, "map<i64,i64>", "m", many)
     same((list(s), [tile for tile in s.tiles() if tile.use in ("object", "node")]), ([], []))
     # of one that is there nothing is changed by pairs that are outside it, and it stays where it is asked for
     s["m"] = {1: 10, 2: 20}
-    raises(zaluxhoni.OutOfRange, set_item, s, "m", {3: 30, 4: 2**63})
-    raises(zaluxhoni.WrongKind, set_item, s, "m", {3: True})
+    raises(zaluxhoni.OutOfRangeError, set_item, s, "m", {3: 30, 4: 2**63})
+    raises(zaluxhoni.WrongKindError, set_item, s, "m", {3: True})
     same(dict(s.find_or_construct("map<i64,i64>", "m", many)), {1: 10, 2: 20})
-    raises(zaluxhoni.Exists, s.construct, "map<i64,i64>", "m", {1: 11})
+    raises(zaluxhoni.ExistsError, s.construct, "map<i64,i64>", "m", {1: 11})
     same(dict(s["m"]), {1: 10, 2: 20})
 
 
 def size_and_region():
     s = create(208)
-    raises(zaluxhoni.NoSpace, s.construct, "i64[100]", "numbers", 0)
-    raises(zaluxhoni.BadGrowth, s.grow, 33)
-    raises(zaluxhoni.TooLarge, s.grow, 1073741824)
+    raises(zaluxhoni.NoSpaceError, s.construct, "i64[100]", "numbers", 0)
+    raises(zaluxhoni.BadGrowthError, s.grow, 33)
+    raises(zaluxhoni.TooLargeError, s.grow, 1073741824)
     s.grow(1024)
     s.construct("i64[100]", "numbers", 0)
     s.shrink()
     same(s.size, 1040)
-    raises(zaluxhoni.ShortRegion, s.relocate, 1024)
-    raises(zaluxhoni.BadSize, s.relocate, 1030)
+    raises(zaluxhoni.ShortRegionError, s.relocate, 1024)
+    raises(zaluxhoni.BadSizeError, s.relocate, 1030)
     s.relocate(2048)
     same(s.region_left, 1008)
     s.zero_free()
@@ -548,7 +548,7 @@ def size_and_region():
     s.vector("v", "i64").extend(range(1000))
     same(s["v"][999], 999)
     before = s.size
-    raises(zaluxhoni.TooLarge, s["v"].reserve, 2**40)
+    raises(zaluxhoni.TooLargeError, s["v"].reserve, 2**40)
     same(s.size, before)
     saved(s, "grown")
 
@@ -563,7 +563,7 @@ def calls_of_c():
     room = ctypes.create_string_buffer(image, len(image))
     zx, handle = library.zx, library.Handle()
     memory, place = library.Memory(ctypes.addressof(room), len(image)), ctypes.c_uint64(7)
-    same(zx.zx_attach_explained(handle, memory, 1008, 0, place), zaluxhoni.Truncated.code)
+    same(zx.zx_attach_explained(handle, memory, 1008, 0, place), zaluxhoni.TruncatedError.code)
     same(place.value, 1008)
     same(zx.zx_attach(handle, memory, len(image), 0), 0)
     key, there, index = library.Key(0, 0, 0, b"a/1", 3), library.Elements(), ctypes.c_uint64(7)
@@ -575,16 +575,16 @@ def calls_of_c():
     same(zx.zx_view_mut(handle, key, there), 0)
     ctypes.c_int64.from_address(there.at).value = 6
     same(zx.zx_rollback(handle, before), 0)
-    same(zx.zx_file_rollback(library.File(), before), zaluxhoni.Closed.code)
+    same(zx.zx_file_rollback(library.File(), before), zaluxhoni.ClosedError.code)
     same(zx.zx_file_leave(library.File(), library.Step()), None)
     same(zx.zx_version(), 900)
     same(zaluxhoni.__version__, "0.9.0")
     same(zaluxhoni.state(), zx.zx_state().decode())
-    same(zx.zx_message(zaluxhoni.NoSpace.code), b"no space")
+    same(zx.zx_message(zaluxhoni.NoSpaceError.code), b"no space")
     text = library.Text()
-    zx.zx_words(zaluxhoni.NoSpace.code, text)
+    zx.zx_words(zaluxhoni.NoSpaceError.code, text)
     same(ctypes.string_at(text.at, text.len), b"no space")
-    zx.zx_file_words(zaluxhoni.NoSpace.code, text)
+    zx.zx_file_words(zaluxhoni.NoSpaceError.code, text)
     same(ctypes.string_at(text.at, text.len), b"no space")
     same(ctypes.c_int64.from_buffer(room, there.offset).value, 5)
     same(zx.zx_named_from(handle, b"a/", 2, index), 0)
@@ -613,26 +613,26 @@ def what_shows_a_class():
 
     first, second = at + 24 + word(at + 24), other + 24 + word(other + 24)
     for error, bad, place in (
-            (zaluxhoni.Truncated, image[:1008], 1008),
-            (zaluxhoni.BadMagic, changed(0, word(0) ^ 1 << 24), 3),
-            (zaluxhoni.UnsupportedVersion, changed(8, 9), 8),
-            (zaluxhoni.BadImageSize, changed(16, 1025), 16),
-            (zaluxhoni.BadImageSize, image + bytes(16), 1024),
-            (zaluxhoni.BadReserved, changed(88, 1), 88),
-            (zaluxhoni.BadTag, changed(128, 16), 128),
-            (zaluxhoni.BadFreeTree, changed(24, 1), 24),
-            (zaluxhoni.BadIndex, changed(40, 99), 40),
-            (zaluxhoni.BadObject, changed(at, 99), at),
-            (zaluxhoni.SharedBlock, changed(other + 24, first - (other + 24) & 2 ** 64 - 1), other + 24),
-            (zaluxhoni.BadContainer, changed(at + 32, 99), at),
-            (zaluxhoni.OrphanBlock, changed(other + 24, 1, 0, 0), second)):
+            (zaluxhoni.TruncatedError, image[:1008], 1008),
+            (zaluxhoni.BadMagicError, changed(0, word(0) ^ 1 << 24), 3),
+            (zaluxhoni.UnsupportedVersionError, changed(8, 9), 8),
+            (zaluxhoni.BadImageSizeError, changed(16, 1025), 16),
+            (zaluxhoni.BadImageSizeError, image + bytes(16), 1024),
+            (zaluxhoni.BadReservedError, changed(88, 1), 88),
+            (zaluxhoni.BadTagError, changed(128, 16), 128),
+            (zaluxhoni.BadFreeTreeError, changed(24, 1), 24),
+            (zaluxhoni.BadIndexError, changed(40, 99), 40),
+            (zaluxhoni.BadObjectError, changed(at, 99), at),
+            (zaluxhoni.SharedBlockError, changed(other + 24, first - (other + 24) & 2 ** 64 - 1), other + 24),
+            (zaluxhoni.BadContainerError, changed(at + 32, 99), at),
+            (zaluxhoni.OrphanBlockError, changed(other + 24, 1, 0, 0), second)):
         with open(path, "wb") as file:
             file.write(bad)
         for call, *arguments in ((zaluxhoni.check, bad), (zaluxhoni.load, bad), (zaluxhoni.open, path, "r"),
                                  (zaluxhoni.open, path, "w")):
             try:
                 call(*arguments)
-            except zaluxhoni.BadImage as refused:
+            except zaluxhoni.BadImageError as refused:
                 same(type(refused), error)
                 same(refused.place, place)
             else:
@@ -643,40 +643,40 @@ def what_shows_a_class():
 def what_is_refused():
     s = create(1024)
     image = s.image()
-    raises(zaluxhoni.BadSize, zaluxhoni.create, 160)
-    raises(zaluxhoni.OutOfRange, zaluxhoni.create, -1)
-    raises(zaluxhoni.ShortRegion, zaluxhoni.load, image, capacity=1008)
-    raises(zaluxhoni.BadSize, zaluxhoni.load, image, capacity=1025)
-    raises(zaluxhoni.BadMode, zaluxhoni.load, image, "c")
-    raises(zaluxhoni.Truncated, zaluxhoni.load, image[:512])
-    raises(zaluxhoni.Truncated, zaluxhoni.load, b"")
-    raises(zaluxhoni.Truncated, zaluxhoni.check, image[:512])
-    raises(zaluxhoni.BadMagic, zaluxhoni.check, b"x" + image[1:])
-    same(issubclass(zaluxhoni.BadMagic, zaluxhoni.BadImage), True)
-    same(zaluxhoni.BadImage.place, None)
-    raises(zaluxhoni.BadName, s.construct, "i64", "", 1)
-    raises(zaluxhoni.BadName, s.construct, "i64", b"\xff", 1)
-    raises(zaluxhoni.BadName, s.construct, "i64", "\udcff", 1)
-    raises(zaluxhoni.BadName, s.construct, "i64", "n" * 256, 1)
-    raises(zaluxhoni.BadKey, s.construct, "i64", 5, 1)
-    raises(zaluxhoni.BadKey, s.construct, "i64", handle(144), 1)
-    raises(zaluxhoni.BadKey, s.info, None)
-    raises(zaluxhoni.BadKind, s.construct, "i64", unique("u8"), 1)
-    raises(zaluxhoni.BadKind, s.construct, "vec<i64>[3]", "a")
-    raises(zaluxhoni.BadKind, s.construct, "f64", "a", 1)
-    raises(zaluxhoni.NotFound, s.info, "a")
-    for error, base in ((zaluxhoni.NotFound, KeyError), (zaluxhoni.Absent, KeyError),
-                        (zaluxhoni.OutOfRange, IndexError),
-                        (zaluxhoni.OutOfRange, OverflowError), (zaluxhoni.NoSpace, MemoryError),
-                        (zaluxhoni.WrongKind, TypeError),
-                        (zaluxhoni.ReadOnly, PermissionError), (zaluxhoni.Exists, ValueError),
-                        (zaluxhoni.Truncated, ValueError)):
+    raises(zaluxhoni.BadSizeError, zaluxhoni.create, 160)
+    raises(zaluxhoni.OutOfRangeError, zaluxhoni.create, -1)
+    raises(zaluxhoni.ShortRegionError, zaluxhoni.load, image, capacity=1008)
+    raises(zaluxhoni.BadSizeError, zaluxhoni.load, image, capacity=1025)
+    raises(zaluxhoni.BadModeError, zaluxhoni.load, image, "c")
+    raises(zaluxhoni.TruncatedError, zaluxhoni.load, image[:512])
+    raises(zaluxhoni.TruncatedError, zaluxhoni.load, b"")
+    raises(zaluxhoni.TruncatedError, zaluxhoni.check, image[:512])
+    raises(zaluxhoni.BadMagicError, zaluxhoni.check, b"x" + image[1:])
+    same(issubclass(zaluxhoni.BadMagicError, zaluxhoni.BadImageError), True)
+    same(zaluxhoni.BadImageError.place, None)
+    raises(zaluxhoni.BadNameError, s.construct, "i64", "", 1)
+    raises(zaluxhoni.BadNameError, s.construct, "i64", b"\xff", 1)
+    raises(zaluxhoni.BadNameError, s.construct, "i64", "\udcff", 1)
+    raises(zaluxhoni.BadNameError, s.construct, "i64", "n" * 256, 1)
+    raises(zaluxhoni.BadKeyError, s.construct, "i64", 5, 1)
+    raises(zaluxhoni.BadKeyError, s.construct, "i64", handle(144), 1)
+    raises(zaluxhoni.BadKeyError, s.info, None)
+    raises(zaluxhoni.BadKindError, s.construct, "i64", unique("u8"), 1)
+    raises(zaluxhoni.BadKindError, s.construct, "vec<i64>[3]", "a")
+    raises(zaluxhoni.BadKindError, s.construct, "f64", "a", 1)
+    raises(zaluxhoni.NotFoundError, s.info, "a")
+    for error, base in ((zaluxhoni.NotFoundError, KeyError), (zaluxhoni.AbsentError, KeyError),
+                        (zaluxhoni.OutOfRangeError, IndexError),
+                        (zaluxhoni.OutOfRangeError, OverflowError), (zaluxhoni.NoSpaceError, MemoryError),
+                        (zaluxhoni.WrongKindError, TypeError),
+                        (zaluxhoni.ReadOnlyError, PermissionError), (zaluxhoni.ExistsError, ValueError),
+                        (zaluxhoni.TruncatedError, ValueError)):
         same((issubclass(error, base), issubclass(error, zaluxhoni.Error)), (True, True))
-    same(str(zaluxhoni.ReadOnly()), "read only")
-    same(str(zaluxhoni.NotFound()), "not found")
+    same(str(zaluxhoni.ReadOnlyError()), "read only")
+    same(str(zaluxhoni.NotFoundError()), "not found")
     s.discard()
-    raises(zaluxhoni.Closed, s.construct, "i64", "a", 1)
-    raises(zaluxhoni.Closed, lambda: s.size)
+    raises(zaluxhoni.ClosedError, s.construct, "i64", "a", 1)
+    raises(zaluxhoni.ClosedError, lambda: s.size)
 
 
 def one_thread():
@@ -692,7 +692,7 @@ def one_thread():
     thread = threading.Thread(target=use)
     thread.start()
     thread.join()
-    same(errors, [zaluxhoni.WrongThread])
+    same(errors, [zaluxhoni.WrongThreadError])
     same(len(s), 0)
 
 
@@ -712,7 +712,7 @@ def values_of_one_kind_alone():
                           ("text", {1: 2}),
                           ("new", {1, 2}), ("new", iter([1])), ("new", None), ("new", [1.5]), ("new", {"a": 1}),
                           ("bytes", "ab")):
-        raises(zaluxhoni.WrongKind, set_item, s, name, refused)
+        raises(zaluxhoni.WrongKindError, set_item, s, name, refused)
     same(all_of(s), {"bytes": [1], "m": {1: 2}, "n": 5, "t": ["a"], "text": "x", "v": [1, 2]})
     s["bytes"] = b"ab"
     s["n"] = 6
@@ -734,29 +734,29 @@ def a_mapping_as_dict_is_one():
     s["v"], s["t"], s["n"], s["text"], s["m"] = [1, 2], ["a"], 5, "x", {1: 2}
     same((s.pop("v"), s.pop("t"), s.pop("n"), s.pop("text"), s.pop("m"), s.pop("m", 7)),
          ([1, 2], ["a"], 5, "x", {1: 2}, 7))
-    raises(zaluxhoni.NotFound, s.pop, "v")
+    raises(zaluxhoni.NotFoundError, s.pop, "v")
     s.setdefault("q", []).append(1)
     s.setdefault("q", []).append(2)
     same(list(s["q"]), [1, 2])
     same((5 in s, None in s, "" in s, s.get(5), s.get(""), s.get("n" * 256, 8)), (False, False, False, None, None, 8))
-    raises(zaluxhoni.NotFound, lambda: s[5])
-    raises(zaluxhoni.NotFound, delete_item, s, 5)
-    raises(zaluxhoni.BadKey, set_item, s, 5, 1)
-    raises(zaluxhoni.BadName, set_item, s, "", 1)
+    raises(zaluxhoni.NotFoundError, lambda: s[5])
+    raises(zaluxhoni.NotFoundError, delete_item, s, 5)
+    raises(zaluxhoni.BadKeyError, set_item, s, 5, 1)
+    raises(zaluxhoni.BadNameError, set_item, s, "", 1)
     same(s.popitem(), ("q", [1, 2]))
-    raises(zaluxhoni.NotFound, s.popitem)
-    raises(zaluxhoni.WrongKind, s.update, 5)
+    raises(zaluxhoni.NotFoundError, s.popitem)
+    raises(zaluxhoni.WrongKindError, s.update, 5)
     m = s.map("m", "i32", "i64")
     m[1] = 10
     same(("a" in m, m.get("a"), m.get("a", 3), None in m, 1.5 in m, True in m, 2**31 in m),
          (False, None, 3, False, False, False, False))
     for key in ("a", None, 2**31, 1.5, True):
-        raises(zaluxhoni.Absent, m.__getitem__, key)
-        raises(zaluxhoni.Absent, delete_item, m, key)
-        raises(zaluxhoni.Absent, m.pop, key)
-    raises(zaluxhoni.WrongKind, m.update, 5)
-    raises(zaluxhoni.WrongKind, m.update, {2: 20, "a": 1})
-    raises(zaluxhoni.OutOfRange, m.update, {2: 20, 3: 2**63})
+        raises(zaluxhoni.AbsentError, m.__getitem__, key)
+        raises(zaluxhoni.AbsentError, delete_item, m, key)
+        raises(zaluxhoni.AbsentError, m.pop, key)
+    raises(zaluxhoni.WrongKindError, m.update, 5)
+    raises(zaluxhoni.WrongKindError, m.update, {2: 20, "a": 1})
+    raises(zaluxhoni.OutOfRangeError, m.update, {2: 20, 3: 2**63})
     same(dict(m), {1: 10})
     m |= {2: 20}
     same((m | {3: 30}, {0: 0} | m, list(reversed(m)), m.popitem(), len(m)),
@@ -864,7 +864,7 @@ def copies():
             try:
                 call(refused)
             except TypeError as error:
-                same((type(error), "not copied" in str(error)), (zaluxhoni.WrongKind, True))
+                same((type(error), "not copied" in str(error)), (zaluxhoni.WrongKindError, True))
             else:
                 fails("no error")
     same(s.is_open, True)
@@ -875,13 +875,13 @@ def a_list_as_list_is_one():
     v, free = s.vector("v", "i64"), s.free
     v.extend(range(5))
     # all of it or nothing
-    raises(zaluxhoni.OutOfRange, v.extend, [1, 2**63])
-    raises(zaluxhoni.NoSpace, v.extend, range(10**4))
+    raises(zaluxhoni.OutOfRangeError, v.extend, [1, 2**63])
+    raises(zaluxhoni.NoSpaceError, v.extend, range(10**4))
     same((list(v), v.capacity), ([0, 1, 2, 3, 4], 5))
     t = s.strings("t")
     t.extend(["a", "b"])
-    raises(zaluxhoni.NoSpace, t.extend, ["c", "d" * 10**4])
-    raises(zaluxhoni.WrongKind, t.extend, ["c", 5])
+    raises(zaluxhoni.NoSpaceError, t.extend, ["c", "d" * 10**4])
+    raises(zaluxhoni.WrongKindError, t.extend, ["c", 5])
     same(list(t), ["a", "b"])
     # few behind many: places double, so that each is moved a few times
     many, moved = s.construct("vec<u8>", "many", [0] * 100), 0
@@ -895,8 +895,8 @@ def a_list_as_list_is_one():
     v *= 2
     same((v, v[::-3], v.count(7), [9] + v[:1], v[:1] + [9], v > [4, 3]), ([4, 3, 2, 1, 0, 7] * 2, [7, 2, 7, 2], 2,
                                                                           [9, 4], [4, 9], True))
-    raises(zaluxhoni.NoElement, v.remove, 9)
-    raises(zaluxhoni.NoElement, v.index, 4, 1, 6)
+    raises(zaluxhoni.NoElementError, v.remove, 9)
+    raises(zaluxhoni.NoElementError, v.index, 4, 1, 6)
     same(v.index(4, 1), 6)
     s.discard()
 
@@ -929,10 +929,10 @@ def threads_that_follow_each_other():
              lambda: len(v), lambda: list(m), lambda: s.discard(), lambda: s.save())
     for _ in range(100):
         same(on_a_thread(lambda: (idents.append(threading.get_ident()), [name_of_error(call) for call in calls])[1]),
-             ["WrongThread"] * len(calls))
+             ["WrongThreadError"] * len(calls))
         if idents[-1] == idents[0]:
             break
-    same([name_of_error(call) for call in calls], ["WrongThread"] * len(calls))
+    same([name_of_error(call) for call in calls], ["WrongThreadError"] * len(calls))
 
 
 def one_segment_of_many_threads():
@@ -984,10 +984,10 @@ def groups():
     same(all_of(prices), {"": 4, "apples": 250, "of/kinds": ["red"], "old": {7: 8}, "pears": {1: 2}})
     same(prices.group("of/").named()[0].name, "prices/of/kinds")
     same((prices.pop("apples"), prices.popitem(), len(prices)), (250, ("", 4), 3))
-    raises(zaluxhoni.NotFound, lambda: prices["apples"])
-    raises(zaluxhoni.BadKey, set_item, prices, 5, 1)
-    raises(zaluxhoni.BadKey, prices.construct, "u8", unique("u8"), 1)
-    raises(zaluxhoni.BadKey, prices.construct, "u8", None, 1)
+    raises(zaluxhoni.NotFoundError, lambda: prices["apples"])
+    raises(zaluxhoni.BadKeyError, set_item, prices, 5, 1)
+    raises(zaluxhoni.BadKeyError, prices.construct, "u8", unique("u8"), 1)
+    raises(zaluxhoni.BadKeyError, prices.construct, "u8", None, 1)
     # what is made and destroyed while it is gone over is seen, or not, by its name
     seen = []
     for name in prices:
@@ -1053,7 +1053,7 @@ def transactions():
     with zaluxhoni.open(path, "r") as s:
         with s.transaction():
             same(s["a"], 1)
-    raises(zaluxhoni.Closed, s.transaction().__enter__)
+    raises(zaluxhoni.ClosedError, s.transaction().__enter__)
 
 
 class Point(ctypes.Structure):
@@ -1075,13 +1075,13 @@ def records():
     same((list(doubles), doubles.index(-2.5), doubles.pop(), 8.5 in doubles), ([9.0, -2.5], 1, -2.5, False))
     doubles.assign([])
     same((list(doubles), doubles == []), ([], True))
-    raises(zaluxhoni.WrongKind, doubles.append, "x")
-    raises(zaluxhoni.OutOfRange, lambda: doubles[0])
+    raises(zaluxhoni.WrongKindError, doubles.append, "x")
+    raises(zaluxhoni.OutOfRangeError, lambda: doubles[0])
     pairs = s.records("pairs", "<hI")
     pairs.assign([(-1, 2), (3, 4)])
     same((list(pairs), bytes(s["pairs"][:6])), ([(-1, 2), (3, 4)], b"\xff\xff\2\0\0\0"))
-    raises(zaluxhoni.WrongKind, pairs.append, (1, 2, 3))
-    raises(zaluxhoni.WrongKind, pairs.append, (2**15, 2))
+    raises(zaluxhoni.WrongKindError, pairs.append, (1, 2, 3))
+    raises(zaluxhoni.WrongKindError, pairs.append, (2**15, 2))
     points = s.records("points", Point)
     points.append(Point(1.5, 2.5, 3))
     points.append((4.5, 5.5, 6))
@@ -1092,9 +1092,9 @@ def records():
     origin = s.records("origin", Point)
     origin[0] = Point(origin[0].x + 1, 8, 9)
     same((origin[0].x, len(origin)), (8.0, 1))
-    raises(zaluxhoni.WrongKind, origin.append, Point())
-    raises(zaluxhoni.BadCount, len, s.records("origin", "5s"))
-    raises(zaluxhoni.WrongKind, s.records, "origin2", int)
+    raises(zaluxhoni.WrongKindError, origin.append, Point())
+    raises(zaluxhoni.BadCountError, len, s.records("origin", "5s"))
+    raises(zaluxhoni.WrongKindError, s.records, "origin2", int)
 
 
 def views():
@@ -1120,14 +1120,14 @@ def views():
                  lambda: s.pop("v"), lambda: s.object(handle(v.handle)).append(1), lambda: set_item(s, "v", [1]),
                  lambda: s.grow(64), lambda: s.shrink(), lambda: s.relocate(2**20),
                  lambda: s["other"].extend(range(2000))):
-        raises(zaluxhoni.Lent, call)
+        raises(zaluxhoni.LentError, call)
     same((view.tolist(), "v" in s), ([10, 20, 30], True))
     del view
     v.append(40)
     with v.view() as view:
         part = view[1:3]
     raises_bare(ValueError, lambda: view[0])
-    raises(zaluxhoni.Lent, v.append, 1)
+    raises(zaluxhoni.LentError, v.append, 1)
     part.release()
     v.append(50)
     same((bytes(text.view()), text.view().format, v.view().tolist()), (b"abc", "B", [10, 20, 30, 40, 50]))
@@ -1175,7 +1175,7 @@ def views():
     with create(4096, check_same_thread=False) as s:
         s["v"] = [1, 2]
         view = s["v"].view()
-        same(on_a_thread(lambda: name_of_error(lambda: s["v"].append(3))), "Lent")
+        same(on_a_thread(lambda: name_of_error(lambda: s["v"].append(3))), "LentError")
         same(on_a_thread(lambda: view.tolist()), [1, 2])
         view = None
         same(on_a_thread(lambda: s["v"].append(3)), None)
@@ -1289,7 +1289,7 @@ def what_cannot_be_undone():
             s = zaluxhoni.open(path, "w", **named)
 
             def fails_to_undo():
-                zx.zx_file_undo = lambda *_: zaluxhoni.NoMemory.code
+                zx.zx_file_undo = lambda *_: zaluxhoni.NoMemoryError.code
                 try:
                     with s.transaction():
                         s["n"] = 2
@@ -1303,17 +1303,17 @@ def what_cannot_be_undone():
                     s["n"] = 3
                     try:
                         fails_to_undo()
-                    except zaluxhoni.NoMemory:
+                    except zaluxhoni.NoMemoryError:
                         if not is_kept:
                             raise
-            raises(zaluxhoni.NoMemory, outer, False)
+            raises(zaluxhoni.NoMemoryError, outer, False)
             same(s["n"], 1)
-            raises(zaluxhoni.NotUndone, outer, True)
+            raises(zaluxhoni.NotUndoneError, outer, True)
             same(s["n"], 1)
             s.flush()
-            raises(zaluxhoni.NoMemory, fails_to_undo)
+            raises(zaluxhoni.NoMemoryError, fails_to_undo)
             for call in (s.save, s.flush, s.commit, s.close):
-                raises(zaluxhoni.NotUndone, call)
+                raises(zaluxhoni.NotUndoneError, call)
             same((s.is_open, len(s._steps)), (True, 0))
             s.discard()
             with zaluxhoni.open(path, "r") as s:
@@ -1325,9 +1325,9 @@ def what_cannot_be_undone():
                     s = opened
                     try:
                         fails_to_undo()
-                    except zaluxhoni.NoMemory:
+                    except zaluxhoni.NoMemoryError:
                         pass
-            raises(zaluxhoni.NotUndone, in_block)
+            raises(zaluxhoni.NotUndoneError, in_block)
             same(s.is_open, False)
             with zaluxhoni.open(path, "r") as s:
                 same(s["n"], 1)
@@ -1344,7 +1344,7 @@ def saves_in_a_transaction():
                 s["n"] = 2
                 with s.transaction():
                     for call in (s.save, s.commit, s.flush, s.close):
-                        raises(zaluxhoni.FileInStep, call)
+                        raises(zaluxhoni.FileInStepError, call)
                 same(s.is_open, True)
                 with zaluxhoni.open(path, "r") as reader:
                     same(reader["n"], 1)
@@ -1356,7 +1356,7 @@ def saves_in_a_transaction():
                 with s.transaction():
                     s["n"] = 4
                     s.close()
-            except zaluxhoni.FileInStep as error:
+            except zaluxhoni.FileInStepError as error:
                 same((s["n"], error.filename), (3, path))
         with zaluxhoni.open(path, "r") as s:
             same(s["n"], 3)
@@ -1369,7 +1369,7 @@ def saves_in_a_transaction():
             same(s["n"], 3)
     s = create(1024)
     with s.transaction():
-        raises(zaluxhoni.FileInStep, s.close)
+        raises(zaluxhoni.FileInStepError, s.close)
     s.close()
 
 
@@ -1386,27 +1386,27 @@ def raises_bare(error, call):
 
 def files():
     path = new("file")
-    raises(zaluxhoni.FileMissing, zaluxhoni.open, path, "w")
-    raises(zaluxhoni.FileMissing, zaluxhoni.open, path, "r")
+    raises(zaluxhoni.FileMissingError, zaluxhoni.open, path, "w")
+    raises(zaluxhoni.FileMissingError, zaluxhoni.open, path, "r")
     with zaluxhoni.open(path, "x", size=1024) as s:
         # it stands there at once, and belongs to the segment
         with zaluxhoni.open(path, "r") as reader:
             same((len(reader), reader.size), (0, 1024))
-        raises(zaluxhoni.FileInUse, zaluxhoni.open, path, "c")
+        raises(zaluxhoni.FileInUseError, zaluxhoni.open, path, "c")
         s.construct("i64", "a", 5)
     same(os.path.getsize(path), 1024)
-    raises(zaluxhoni.FileExists, zaluxhoni.open, path, "x")
-    same(issubclass(zaluxhoni.FileExists, (FileExistsError, zaluxhoni.Error)), True)
+    raises(zaluxhoni.PathExistsError, zaluxhoni.open, path, "x")
+    same(issubclass(zaluxhoni.PathExistsError, (FileExistsError, zaluxhoni.Error)), True)
     with zaluxhoni.open(path, size=7) as s:
         same((s["a"], s.mode, s.size), (5, "write", 1024))
         s["a"] = 6
         s.save()
         # the lock is held, also behind a save that has replaced the file
-        raises(zaluxhoni.FileInUse, zaluxhoni.open, path, "w")
+        raises(zaluxhoni.FileInUseError, zaluxhoni.open, path, "w")
         with zaluxhoni.open(path, "r") as reader:
             same((reader["a"], reader.mode), (6, "read"))
-            raises(zaluxhoni.ReadOnly, set_item, reader, "a", 7)
-            raises(zaluxhoni.ReadOnly, reader.save)
+            raises(zaluxhoni.ReadOnlyError, set_item, reader, "a", 7)
+            raises(zaluxhoni.ReadOnlyError, reader.save)
         s["a"] = 8
     with zaluxhoni.open(path, "p") as private:
         same(private.mode, "copy on write")
@@ -1421,12 +1421,12 @@ def files():
         pass
     with zaluxhoni.open(path, "w") as s:
         same(s["a"], 8)
-        raises(zaluxhoni.FileExists, s.save_as, path)
+        raises(zaluxhoni.PathExistsError, s.save_as, path)
     same(os.path.exists(path + ".new"), False)
-    raises(zaluxhoni.BadMode, zaluxhoni.open, path, "rw")
-    raises(zaluxhoni.WrongKind, zaluxhoni.open, 5)
-    raises(zaluxhoni.BadName, zaluxhoni.open, "a\0b")
-    raises(zaluxhoni.NoFile, create(1024).save)
+    raises(zaluxhoni.BadModeError, zaluxhoni.open, path, "rw")
+    raises(zaluxhoni.WrongKindError, zaluxhoni.open, 5)
+    raises(zaluxhoni.BadNameError, zaluxhoni.open, "a\0b")
+    raises(zaluxhoni.NoFileError, create(1024).save)
     # a close without changes writes nothing
     before = os.stat(path)
     with zaluxhoni.open(path, "w") as s:
@@ -1450,8 +1450,8 @@ def files_that_are_mapped():
     s["a"] = 5
     with zaluxhoni.open(path, "r") as reader:
         same(reader["a"], 5)
-    raises(zaluxhoni.FileInUse, zaluxhoni.open, path, "w")
-    raises(zaluxhoni.FileInUse, zaluxhoni.open, path, "r", mapped=True)
+    raises(zaluxhoni.FileInUseError, zaluxhoni.open, path, "w")
+    raises(zaluxhoni.FileInUseError, zaluxhoni.open, path, "r", mapped=True)
     s.grow(4096)
     same((s.size, os.path.getsize(path), s["a"]), (8192, 8192, 5))
     s.flush()
@@ -1466,8 +1466,8 @@ def files_that_are_mapped():
     with zaluxhoni.open(path, "r", mapped=True) as reader, zaluxhoni.open(path, "p", mapped=True) as private:
         private["a"] = 7
         same((reader["a"], private["a"]), (6, 7))
-        raises(zaluxhoni.ReadOnly, set_item, reader, "a", 7)
-        raises(zaluxhoni.FileInUse, zaluxhoni.open, path, "w")
+        raises(zaluxhoni.ReadOnlyError, set_item, reader, "a", 7)
+        raises(zaluxhoni.FileInUseError, zaluxhoni.open, path, "w")
     with zaluxhoni.open(path, "w") as s:
         same(s["a"], 6)
 
@@ -1477,20 +1477,20 @@ def what_is_refused_by_name():
     for call in (lambda: s["none"], lambda: s.object("none"), lambda: s.__delitem__("none"), lambda: s.info("none")):
         try:
             call()
-        except zaluxhoni.NotFound as error:
+        except zaluxhoni.NotFoundError as error:
             same("'none'" in str(error), True)
         else:
-            same("no error", "NotFound")
-    raises(zaluxhoni.WrongKind, copy.copy, s)
-    raises(zaluxhoni.WrongKind, copy.deepcopy, s)
-    raises(zaluxhoni.WrongKind, pickle.dumps, s)
+            same("no error", "NotFoundError")
+    raises(zaluxhoni.WrongKindError, copy.copy, s)
+    raises(zaluxhoni.WrongKindError, copy.deepcopy, s)
+    raises(zaluxhoni.WrongKindError, pickle.dumps, s)
     same(s.is_open, True)
-    raises(zaluxhoni.WrongKind, zaluxhoni.load, 5)
-    raises(zaluxhoni.WrongKind, zaluxhoni.check, "text")
-    raises(zaluxhoni.WrongKind, s.construct, "vec<i64>", "v", 5)
-    raises(zaluxhoni.WrongKind, s.construct, "vec<string>", "v", 5)
-    raises(zaluxhoni.WrongKind, s.construct, "map<i64,i64>", "m", 5)
-    raises(zaluxhoni.WrongKind, s.construct, "i64[2]", "a", 5.0)
+    raises(zaluxhoni.WrongKindError, zaluxhoni.load, 5)
+    raises(zaluxhoni.WrongKindError, zaluxhoni.check, "text")
+    raises(zaluxhoni.WrongKindError, s.construct, "vec<i64>", "v", 5)
+    raises(zaluxhoni.WrongKindError, s.construct, "vec<string>", "v", 5)
+    raises(zaluxhoni.WrongKindError, s.construct, "map<i64,i64>", "m", 5)
+    raises(zaluxhoni.WrongKindError, s.construct, "i64[2]", "a", 5.0)
 
 
 def forked(call):
@@ -1520,10 +1520,10 @@ def a_process_that_forks():
     path = new("forked")
     s = zaluxhoni.open(path, "x", size=1024)
     s["a"] = 5
-    same(forked(lambda: name_of_error(s.save)), "FileForked")
-    same(forked(lambda: name_of_error(s.close)), "FileForked")
+    same(forked(lambda: name_of_error(s.save)), "FileForkedError")
+    same(forked(lambda: name_of_error(s.close)), "FileForkedError")
     same(forked(lambda: (s.discard(), os.path.exists(path))[1]), "True")
-    same(forked(lambda: name_of_error(lambda: zaluxhoni.open(path, "w"))), "FileInUse")
+    same(forked(lambda: name_of_error(lambda: zaluxhoni.open(path, "w"))), "FileInUseError")
     s.close()
 
     def add():
@@ -1542,7 +1542,8 @@ def a_process_that_forks():
         same(forked(lambda: (s["a"], v[0], list(v), m[1], dict(m), t[:], s["text"], r[:], len(s), s.mode)),
              str((7, 1, [1, 2], 2, {1: 2}, ["a"], "text", [1.0], 6, "read")))
         for call in (lambda: set_item(s, "a", 8), lambda: set_item(s, "new", 8), lambda: set_item(s, "v", [3]),
-                     lambda: v.append(1), lambda: set_item(v, 0, 5), lambda: set_item(v, slice(0, 1), [5]), v.pop, v.clear,
+                     lambda: v.append(1), lambda: set_item(v, 0, 5), lambda: set_item(v, slice(0, 1), [5]), v.pop,
+                     v.clear,
                      lambda: v.extend([1]), lambda: v.assign([1]), lambda: v.insert(0, 1), lambda: delete_item(v, 0),
                      lambda: v.reserve(100), v.trim, v.sort, lambda: set_item(m, 1, 3), lambda: set_item(m, 2, 3),
                      lambda: delete_item(m, 1), m.clear, m.popitem, lambda: m.update({3: 4}), lambda: t.append("b"),
@@ -1550,17 +1551,19 @@ def a_process_that_forks():
                      lambda: t.assign([]), lambda: text.append("!"), lambda: set_item(text, 0, 65),
                      lambda: text.assign("b"), lambda: r.append(2.0), lambda: set_item(r, 0, 2.0),
                      lambda: delete_item(s, "a"), lambda: s.destroy("a"), lambda: s.pop("a"), s.popitem, s.clear,
-                     lambda: s.construct("i64", "b", 1), lambda: s.vector("b"), lambda: s.map("b"), lambda: s.string("b"),
+                     lambda: s.construct("i64", "b", 1), lambda: s.vector("b"), lambda: s.map("b"),
+                     lambda: s.string("b"),
                      lambda: s.strings("b"), lambda: s.records("b", "d"), lambda: set_item(group, "b", 1),
                      lambda: s.grow(64), s.shrink, s.zero_free, s.shrink_indexes, lambda: s.reserve_named(9),
                      lambda: s.reserve_unique(9), lambda: s.relocate(1 << 20), s.save, s.commit, s.flush, s.close):
-            same(forked(lambda: name_of_error(call)), "FileForked")
+            same(forked(lambda: name_of_error(call)), "FileForkedError")
 
         def in_a_transaction():
             with s.transaction():
                 v.append(1)
-        same(forked(lambda: name_of_error(in_a_transaction)), "FileForked")
-        same(forked(lambda: (v.view().readonly, name_of_error(lambda: set_item(v.view(), 0, 9)))), "(True, 'TypeError')")
+        same(forked(lambda: name_of_error(in_a_transaction)), "FileForkedError")
+        same(forked(lambda: (v.view().readonly, name_of_error(lambda: set_item(v.view(), 0, 9)))),
+             "(True, 'TypeError')")
         s.discard()
     # a segment without a file is the child's own
     s = create(1024)
@@ -1570,7 +1573,7 @@ def a_process_that_forks():
     v = s.vector("v")
     for call in (lambda: s["a"], lambda: set_item(s, "a", 8), lambda: v.append(1), lambda: v[0], lambda: len(v), s.save,
                  s.flush, lambda: s.grow(64)):
-        same(forked(lambda: name_of_error(call)), "FileForked")
+        same(forked(lambda: name_of_error(call)), "FileForkedError")
     s.close()
 
 
@@ -1584,21 +1587,21 @@ def paths_of_each_type():
         with zaluxhoni.open(path, size=1024) as s:
             s["n"] = number
             same((s["n"], repr(os.fspath(path)) in repr(s)), (number, True))
-        raises(zaluxhoni.FileExists, zaluxhoni.open, path, "x")
+        raises(zaluxhoni.PathExistsError, zaluxhoni.open, path, "x")
         try:
             zaluxhoni.open(path, "x")
-        except zaluxhoni.FileExists as error:
+        except zaluxhoni.PathExistsError as error:
             same((error.filename, str(error).isprintable()), (os.fspath(path), True))
         with create(1024) as other:
             try:
                 other.save_as(path)
-            except zaluxhoni.FileExists as error:
+            except zaluxhoni.PathExistsError as error:
                 same(error.filename, os.fspath(path))
     same(last in os.listdir(os.fsencode(folder)), True)
     os.unlink(given)
     for path in (None, 5, 5.0, ["a"], object()):
-        raises(zaluxhoni.WrongKind, zaluxhoni.open, path)
-        raises(zaluxhoni.WrongKind, create(1024).save_as, path)
+        raises(zaluxhoni.WrongKindError, zaluxhoni.open, path)
+        raises(zaluxhoni.WrongKindError, create(1024).save_as, path)
 
 
 def a_relative_path():
@@ -1632,8 +1635,8 @@ def files_that_are_durable():
         s["a"] = 6
         with s.transaction():
             s["a"] = 7
-            raises(zaluxhoni.FileInStep, s.commit)
-            raises(zaluxhoni.FileInStep, s.save)
+            raises(zaluxhoni.FileInStepError, s.commit)
+            raises(zaluxhoni.FileInStepError, s.save)
     try:
         with s.transaction():
             s["a"] = 8
@@ -1668,10 +1671,10 @@ def files_that_are_durable():
     for mode in "rp":
         try:
             zaluxhoni.open(path, mode, durable=True)
-        except zaluxhoni.BadMode as error:
+        except zaluxhoni.BadModeError as error:
             same((f"mode {mode!r}" in str(error), "durable" in str(error), path in str(error)), (True, True, False))
         else:
-            fails("no BadMode")
+            fails("no BadModeError")
     # the log of another file
     s = zaluxhoni.open(path, "w", durable=True)
     s["a"] = 11
@@ -1681,9 +1684,9 @@ def files_that_are_durable():
         image = other.image()
     with open(path, "wb") as file:
         file.write(image)
-    raises(zaluxhoni.FileLogForeign, zaluxhoni.open, path, "w", durable=True)
-    raises(zaluxhoni.FileLogForeign, zaluxhoni.open, path, "w")
-    raises(zaluxhoni.FileLogForeign, zaluxhoni.open, path, "r")
+    raises(zaluxhoni.FileLogForeignError, zaluxhoni.open, path, "w", durable=True)
+    raises(zaluxhoni.FileLogForeignError, zaluxhoni.open, path, "w")
+    raises(zaluxhoni.FileLogForeignError, zaluxhoni.open, path, "r")
     os.remove(path + "-log")
     zaluxhoni.open(path, "w", durable=True).close()
 
@@ -1693,13 +1696,13 @@ def files_that_fail():
     with open(path, "wb") as file:
         file.write(b"this is no image")
     for mode in "rwcp":
-        raises(zaluxhoni.Truncated, zaluxhoni.open, path, mode)
+        raises(zaluxhoni.TruncatedError, zaluxhoni.open, path, mode)
     os.unlink(path)
     # no descriptor is left, whatever is opened
     descriptors = len(os.listdir("/proc/self/fd"))
     for mode in "rwcp":
-        raises(zaluxhoni.IsFolder, zaluxhoni.open, folder, mode)
-        raises(zaluxhoni.IsDevice, zaluxhoni.open, "/dev/zero", mode)
+        raises(zaluxhoni.IsFolderError, zaluxhoni.open, folder, mode)
+        raises(zaluxhoni.IsDeviceError, zaluxhoni.open, "/dev/zero", mode)
     same(len(os.listdir("/proc/self/fd")), descriptors)
     # a save that fails: the old file stays, and the segment can still be saved
     path = new("kept")
@@ -1710,8 +1713,8 @@ def files_that_fail():
     signal.signal(signal.SIGXFSZ, signal.SIG_IGN)
     resource.setrlimit(resource.RLIMIT_FSIZE, (512, limits[1]))
     try:
-        raises(zaluxhoni.FileFault, s.save)
-        raises(zaluxhoni.FileFault, s.close)
+        raises(zaluxhoni.FileFaultError, s.save)
+        raises(zaluxhoni.FileFaultError, s.close)
     finally:
         resource.setrlimit(resource.RLIMIT_FSIZE, limits)
     with zaluxhoni.open(path, "r") as kept:
@@ -1745,7 +1748,7 @@ def files_that_fail_to_grow():
         resource.setrlimit(resource.RLIMIT_FSIZE, (8192, limits[1]))
         try:
             call(s)
-        except zaluxhoni.FileFault as error:
+        except zaluxhoni.FileFaultError as error:
             same((error.errno, error.strerror, error.filename, str(error)),
                  (errno.EFBIG, os.strerror(errno.EFBIG), path, f"[Errno {errno.EFBIG}] {error.strerror}: {path!r}"))
         else:
@@ -1754,8 +1757,8 @@ def files_that_fail_to_grow():
             resource.setrlimit(resource.RLIMIT_FSIZE, limits)
         same((list(s["v"]), s.sanity()), ([1], True))
         s.close()
-    for made in (zaluxhoni.FileReplaced(None, path), zaluxhoni.FileFault(errno.ENOSPC, path),
-                 zaluxhoni._errors._file_error(zaluxhoni.FileFault, errno.EACCES, path)):
+    for made in (zaluxhoni.FileReplacedError(None, path), zaluxhoni.FileFaultError(errno.ENOSPC, path),
+                 zaluxhoni._errors._file_error(zaluxhoni.FileFaultError, errno.EACCES, path)):
         with_key = zaluxhoni._errors.named(made, "key")
         same((type(with_key), with_key.errno, with_key.strerror, with_key.filename),
              (type(made), made.errno, made.strerror, path))
@@ -1773,22 +1776,22 @@ def what_is_read_again():
             same(read(), wanted)
     s.destroy("v")
     for _ in range(3):
-        raises(zaluxhoni.NotFound, lambda: v[0])
+        raises(zaluxhoni.NotFoundError, lambda: v[0])
     s.construct("i64", "taken", 7)
     s["v"] = [3]
     for _ in range(3):
         same(v[0], 3)
-        raises(zaluxhoni.OutOfRange, lambda: v[1])
+        raises(zaluxhoni.OutOfRangeError, lambda: v[1])
     s.destroy("v")
     s.construct("vec<bool>", "v", [True])
     for _ in range(3):
         same(v[0], True)
-        raises(zaluxhoni.WrongKind, v.append, 1)
+        raises(zaluxhoni.WrongKindError, v.append, 1)
     s.destroy("m")
     s.construct("map<u8,u64>", "m", {1: 2**64 - 1})
     for _ in range(3):
         same(m[1], 2**64 - 1)
-        raises(zaluxhoni.Absent, lambda: m[2])
+        raises(zaluxhoni.AbsentError, lambda: m[2])
     try:
         with s.transaction():
             s.destroy("m")
@@ -1804,15 +1807,15 @@ def what_is_read_again():
         same(m.get(key, "none"), "none")
     w = s.vector("w", "i64")
     for value in (True, 1.5, "1", None):
-        raises(zaluxhoni.WrongKind, w.append, value)
-        raises(zaluxhoni.WrongKind, w.extend, [1, value])
+        raises(zaluxhoni.WrongKindError, w.append, value)
+        raises(zaluxhoni.WrongKindError, w.extend, [1, value])
     for value in (2**63, -2**63 - 1, 2**70):
-        raises(zaluxhoni.OutOfRange, w.append, value)
-        raises(zaluxhoni.OutOfRange, w.extend, [1, value])
+        raises(zaluxhoni.OutOfRangeError, w.append, value)
+        raises(zaluxhoni.OutOfRangeError, w.extend, [1, value])
     same(len(w), 0)
     s.discard()
     for _ in range(3):
-        raises(zaluxhoni.Closed, lambda: m[1])
+        raises(zaluxhoni.ClosedError, lambda: m[1])
     # what is lent to a function of Python's goes with it
     s, counts = create(1024), []
     s["v"] = [1]
@@ -1961,7 +1964,7 @@ def the_end_of_a_block():
     except SystemExit:
         same(s["a"], 1)
     s.close()
-    raises(zaluxhoni.Closed, s.__enter__)
+    raises(zaluxhoni.ClosedError, s.__enter__)
 
 
 def errors_are_copied():
@@ -1988,7 +1991,7 @@ def errors_are_copied():
     # a pool does not wait for ever for an error that it cannot read
     said = program("import multiprocessing\ndef go(path): zaluxhoni.open(path, 'r')\nwith multiprocessing.get_context("
                    "'fork').Pool(1) as pool:\n try: pool.apply_async(go, [sys.argv[1]]).get(60)\n except "
-                   "zaluxhoni.FileMissing as error: print(error.filename)", "/nowhere/at all")
+                   "zaluxhoni.FileMissingError as error: print(error.filename)", "/nowhere/at all")
     same(said, (0, "/nowhere/at all\n", ""))
     for key in (unique("map<i32,bool>"), handle(144)):
         for made in (pickle.loads(pickle.dumps(key)), copy.copy(key), copy.deepcopy(key)):
@@ -1996,12 +1999,32 @@ def errors_are_copied():
                  (True, repr(key), key._key.kind, key._key.handle))
 
 
+def names_of_version_0_9():
+    """An exception is found by its old name too, with a warning."""
+    kinds = {name: getattr(zaluxhoni, name) for name in zaluxhoni.__all__ if name.endswith("Error")}
+    new = ("Error", "FileError", "NotUndoneError", "FileLogInTheWayError", "FileLogLeftError")
+    for name, kind in kinds.items():
+        old = "FileExists" if name == "PathExistsError" else name[:-len("Error")]
+        with warnings.catch_warnings(record=True) as caught:
+            warnings.simplefilter("always")
+            found = getattr(zaluxhoni, old, None) if old else None
+        same(found, None if name in new else kind)
+        same([(each.category, name in str(each.message), each.filename) for each in caught],
+             [] if name in new else [(DeprecationWarning, True, __file__)])
+    with warnings.catch_warnings():
+        warnings.simplefilter("ignore")
+        from zaluxhoni import Closed, FileInUse
+        same((Closed, pickle.loads(b"czaluxhoni\nFileInUse\n.")), (zaluxhoni.ClosedError, FileInUse))
+    same((hasattr(zaluxhoni, "FilesInUse"), all(name.endswith("Error") for name, kind in vars(zaluxhoni).items() if
+                                                isinstance(kind, type) and issubclass(kind, Exception))), (False, True))
+
+
 def none_is_no_name():
     s = create(1024)
     for mapping in (s, s.group("g/")):
         for call in (lambda: set_item(mapping, None, 5), lambda: mapping.update({None: 1}),
                      lambda: mapping.setdefault(None, 3), lambda: mapping.update([(None, [1])])):
-            raises(zaluxhoni.WrongKind, call)
+            raises(zaluxhoni.WrongKindError, call)
     same((len(s), [tile for tile in s.tiles() if tile.use == "object"]), (0, []))
 
 
@@ -2047,8 +2070,8 @@ def records_of_other_packages():
     doubles.assign(Series([1.5, 3.5], Dtype(8, "d")))
     doubles[1:] = Series([4.5], Dtype(8, "d"))
     same(list(doubles), [1.5, 4.5])
-    raises(zaluxhoni.WrongKind, doubles.extend, 5)
-    raises(zaluxhoni.WrongKind, doubles.extend, Series(["a"], Dtype(8, "O")))
+    raises(zaluxhoni.WrongKindError, doubles.extend, 5)
+    raises(zaluxhoni.WrongKindError, doubles.extend, Series(["a"], Dtype(8, "O")))
     s.records("pairs", "<hI").extend(Series([(1, 2)], Dtype(16, "none")))
     # "<l" has 4 bytes for struct and 8 for numpy
     halves = s.records("halves", "<l")
@@ -2066,7 +2089,7 @@ def records_of_other_packages():
          [("vec<i32>", [1, 2]), ("vec<string>", ["a", "b"]), ("vec<i64>", [])])
     s["new"], s["texts"] = Series([3], "int64"), Series(["c"], "object")
     same((list(s["new"]), list(s["texts"])), ([3], ["c"]))
-    raises(zaluxhoni.WrongKind, set_item, s, "floats", Series([1.5], "float64"))
+    raises(zaluxhoni.WrongKindError, set_item, s, "floats", Series([1.5], "float64"))
 
 
 def records_as_list_are_one():
@@ -2109,10 +2132,10 @@ def records_as_list_are_one():
     both(lambda of: (of == of.copy(), of < [(100, 0.0)], of >= [], of != []))
     both(lambda of: of.extend(of))
     both(lambda of: of.clear())
-    raises(zaluxhoni.NoElement, ours.remove, (1, 1.0))
-    raises(zaluxhoni.NoElement, ours.index, (1, 1.0))
-    raises(zaluxhoni.OutOfRange, ours.pop)
-    raises(zaluxhoni.WrongKind, ours.index, (1, 1.0), "a")
+    raises(zaluxhoni.NoElementError, ours.remove, (1, 1.0))
+    raises(zaluxhoni.NoElementError, ours.index, (1, 1.0))
+    raises(zaluxhoni.OutOfRangeError, ours.pop)
+    raises(zaluxhoni.WrongKindError, ours.index, (1, 1.0), "a")
     # a slice reads no more than its records
     many, counts = s.records("many", "<hd"), []
     many.extend(some * 50)
@@ -2174,7 +2197,7 @@ def tasks_with_transactions():
             tried.set()
 
         await asyncio.gather(first(), second())
-        same(said, ["WrongTask"] * len(said))
+        same(said, ["WrongTaskError"] * len(said))
         same(len(said), 21)
         # behind it each may call again
         s["b"] = 7
@@ -2207,7 +2230,7 @@ def tasks_with_transactions():
             asyncio.run(inside(s))
         same(s["a"], 8)
         if not shared:
-            same(on_a_thread(lambda: s.transaction().__enter__()), "WrongThread")
+            same(on_a_thread(lambda: s.transaction().__enter__()), "WrongThreadError")
 
 
 def numbers_beyond_all():
@@ -2217,21 +2240,28 @@ def numbers_beyond_all():
     v, m, t, text = s["v"], s["m"], s["t"], s.string("text")
     huge = 10**5000
     for error, call in (
-            (zaluxhoni.OutOfRange, lambda: v.append(huge)), (zaluxhoni.OutOfRange, lambda: set_item(v, 0, huge)),
-            (zaluxhoni.OutOfRange, lambda: v.extend([1, huge])), (zaluxhoni.OutOfRange, lambda: set_item(s, "n", huge)),
-            (zaluxhoni.OutOfRange, lambda: set_item(s, "v", [huge])), (zaluxhoni.OutOfRange, lambda: v[huge]),
-            (zaluxhoni.OutOfRange, lambda: v[-huge]), (zaluxhoni.OutOfRange, lambda: t[huge]),
-            (zaluxhoni.OutOfRange, lambda: text[huge]), (zaluxhoni.OutOfRange, lambda: set_item(m, huge, 1)),
-            (zaluxhoni.OutOfRange, lambda: set_item(m, 1, huge)), (zaluxhoni.OutOfRange, lambda: m.update({1: huge})),
-            (zaluxhoni.Absent, lambda: m[huge]), (zaluxhoni.OutOfRange, lambda: v.reserve(huge)),
-            (zaluxhoni.BadValue, lambda: set_item(s, "new", huge)), (zaluxhoni.NoElement, lambda: v.index(huge)),
-            (zaluxhoni.BadValue, lambda: s.construct("i64", "new", huge)), (zaluxhoni.OutOfRange, lambda: s.grow(huge)),
-            (zaluxhoni.WrongKind, lambda: v.append("x" * 10**6)),
-            (zaluxhoni.WrongKind, lambda: set_item(m, "x" * 10**6, 1)),
-            (zaluxhoni.WrongKind, lambda: set_item(s, "v", "x" * 10**6)), (zaluxhoni.NotFound, lambda: s["x" * 10**6]),
-            (zaluxhoni.WrongKind, lambda: v.assign({"x" * 10**6: 1})), (zaluxhoni.OutOfRange, lambda: handle(huge)),
-            (zaluxhoni.OutOfRange, lambda: s.records("r", "d")[huge]),
-            (zaluxhoni.WrongKind, lambda: s.records("r", "b").append(huge))):
+            (zaluxhoni.OutOfRangeError, lambda: v.append(huge)),
+            (zaluxhoni.OutOfRangeError, lambda: set_item(v, 0, huge)),
+            (zaluxhoni.OutOfRangeError, lambda: v.extend([1, huge])),
+            (zaluxhoni.OutOfRangeError, lambda: set_item(s, "n", huge)),
+            (zaluxhoni.OutOfRangeError, lambda: set_item(s, "v", [huge])), (zaluxhoni.OutOfRangeError, lambda: v[huge]),
+            (zaluxhoni.OutOfRangeError, lambda: v[-huge]), (zaluxhoni.OutOfRangeError, lambda: t[huge]),
+            (zaluxhoni.OutOfRangeError, lambda: text[huge]), (zaluxhoni.OutOfRangeError, lambda: set_item(m, huge, 1)),
+            (zaluxhoni.OutOfRangeError, lambda: set_item(m, 1, huge)),
+            (zaluxhoni.OutOfRangeError, lambda: m.update({1: huge})),
+            (zaluxhoni.AbsentError, lambda: m[huge]), (zaluxhoni.OutOfRangeError, lambda: v.reserve(huge)),
+            (zaluxhoni.BadValueError, lambda: set_item(s, "new", huge)),
+            (zaluxhoni.NoElementError, lambda: v.index(huge)),
+            (zaluxhoni.BadValueError, lambda: s.construct("i64", "new", huge)),
+            (zaluxhoni.OutOfRangeError, lambda: s.grow(huge)),
+            (zaluxhoni.WrongKindError, lambda: v.append("x" * 10**6)),
+            (zaluxhoni.WrongKindError, lambda: set_item(m, "x" * 10**6, 1)),
+            (zaluxhoni.WrongKindError, lambda: set_item(s, "v", "x" * 10**6)),
+            (zaluxhoni.NotFoundError, lambda: s["x" * 10**6]),
+            (zaluxhoni.WrongKindError, lambda: v.assign({"x" * 10**6: 1})),
+            (zaluxhoni.OutOfRangeError, lambda: handle(huge)),
+            (zaluxhoni.OutOfRangeError, lambda: s.records("r", "d")[huge]),
+            (zaluxhoni.WrongKindError, lambda: s.records("r", "b").append(huge))):
         try:
             call()
         except zaluxhoni.Error as raised:
@@ -2249,8 +2279,8 @@ def small_rules():
     s = create(4096)
     s["n"], s["v"], s["m"] = 5, [1, 2, 3], {1: 2, 3: 4, 5: 6, 7: 8}
     # one number is no list
-    raises(zaluxhoni.WrongKind, set_item, s, "n", [7])
-    raises(zaluxhoni.WrongKind, set_item, s, "n", (7,))
+    raises(zaluxhoni.WrongKindError, set_item, s, "n", [7])
+    raises(zaluxhoni.WrongKindError, set_item, s, "n", (7,))
     same(s["n"], 5)
     s.construct("i64[1]", "other", 9)
     s["n"] = s.object("other")
@@ -2280,7 +2310,7 @@ def small_rules():
         ends = s.construct(f"map<{kind},u8>", kind, {most: 1, most - 1: 2})
         same((list(ends.range(most)), list(ends.range(most - 1, most)), list(ends.range(0))),
              ([(most, 1)], [(most - 1, 2)], [(most - 1, 2), (most, 1)]))
-    raises(zaluxhoni.WrongKind, m.range, "a")
+    raises(zaluxhoni.WrongKindError, m.range, "a")
     seen = []
     for key, _ in m.range(1, 7):
         seen.append(key)
@@ -2298,7 +2328,7 @@ def small_rules():
                        (lambda: s.map("floats", "i64", "double"), "records")):
         try:
             call()
-        except (zaluxhoni.WrongKind, zaluxhoni.BadKind) as error:
+        except (zaluxhoni.WrongKindError, zaluxhoni.BadKindError) as error:
             same((word in str(error), str(error)), (True, str(error)))
         else:
             fails("no error")
@@ -2316,12 +2346,12 @@ def no_space_says_more():
                          (None, lambda: m.update({key: 0 for key in range(1000)}))):
         try:
             call()
-        except zaluxhoni.NoSpace as error:
+        except zaluxhoni.NoSpaceError as error:
             same((error.wanted, error.free, str(error.free) in str(error), "grow" in str(error)),
                  (wanted, s.free, True, True))
             same(wanted is None or str(wanted) in str(error), True)
         else:
-            fails("no NoSpace")
+            fails("no NoSpaceError")
 
 
 def what_messages_say():
@@ -2334,27 +2364,28 @@ def what_messages_say():
     with open(bad, "wb") as file:
         file.write(version)
     for error, call, *words in (
-            (zaluxhoni.BadName, lambda: s.construct("i64", "n" * 256, 1), "at most 255", "256"),
-            (zaluxhoni.BadName, lambda: set_item(s, "é" * 128, 1), "at most 255", "256"),
-            (zaluxhoni.BadName, lambda: s.info("n" * 300), "at most 255", "300"),
-            (zaluxhoni.BadName, lambda: set_item(s.group("g" * 200), "n" * 100, 1), "at most 255", "300"),
-            (zaluxhoni.BadName, lambda: set_item(s, "", 1), "1 to 255"),
-            (zaluxhoni.BadName, lambda: set_item(s, "a\n", 1), "control", "'a\\n'"),
-            (zaluxhoni.BadSize, lambda: create(160), "160", "176", "1073741824"),
-            (zaluxhoni.BadSize, lambda: create(2**30 + 16), "1073741840", "1073741824"),
-            (zaluxhoni.BadSize, lambda: zaluxhoni.open(path, "x", size=7), "7", "176", repr(path)),
-            (zaluxhoni.BadSize, lambda: zaluxhoni.load(s.image(), capacity=1025), "1025", "16"),
-            (zaluxhoni.ShortRegion, lambda: zaluxhoni.load(s.image(), capacity=512), "512", "1024"),
-            (zaluxhoni.ShortRegion, lambda: s.relocate(512), "512", "1024"),
-            (zaluxhoni.BadSize, lambda: s.relocate(1030), "1030"),
-            (zaluxhoni.BadGrowth, lambda: s.grow(33), "33", "32"),
-            (zaluxhoni.TooLarge, lambda: s.grow(2**30), "1024", "1073741824"),
-            (zaluxhoni.WrongKind, lambda: s.find("i64", "v"), "'v'", "vec<i64>"),
-            (zaluxhoni.WrongKind, lambda: s.vector("text"), "'text'", "string", "vec<i64>"),
-            (zaluxhoni.WrongKind, lambda: s.map("n"), "'n'", "i64", "map<i64,i64>"),
-            (zaluxhoni.UnsupportedVersion, lambda: zaluxhoni.load(bytes(version)), "version 9", "segment migrate"),
-            (zaluxhoni.UnsupportedVersion, lambda: zaluxhoni.check(bytes(version)), "version 9", "segment migrate"),
-            (zaluxhoni.UnsupportedVersion, lambda: zaluxhoni.open(bad, "r"), repr(bad), "segment migrate")):
+            (zaluxhoni.BadNameError, lambda: s.construct("i64", "n" * 256, 1), "at most 255", "256"),
+            (zaluxhoni.BadNameError, lambda: set_item(s, "é" * 128, 1), "at most 255", "256"),
+            (zaluxhoni.BadNameError, lambda: s.info("n" * 300), "at most 255", "300"),
+            (zaluxhoni.BadNameError, lambda: set_item(s.group("g" * 200), "n" * 100, 1), "at most 255", "300"),
+            (zaluxhoni.BadNameError, lambda: set_item(s, "", 1), "1 to 255"),
+            (zaluxhoni.BadNameError, lambda: set_item(s, "a\n", 1), "control", "'a\\n'"),
+            (zaluxhoni.BadSizeError, lambda: create(160), "160", "176", "1073741824"),
+            (zaluxhoni.BadSizeError, lambda: create(2**30 + 16), "1073741840", "1073741824"),
+            (zaluxhoni.BadSizeError, lambda: zaluxhoni.open(path, "x", size=7), "7", "176", repr(path)),
+            (zaluxhoni.BadSizeError, lambda: zaluxhoni.load(s.image(), capacity=1025), "1025", "16"),
+            (zaluxhoni.ShortRegionError, lambda: zaluxhoni.load(s.image(), capacity=512), "512", "1024"),
+            (zaluxhoni.ShortRegionError, lambda: s.relocate(512), "512", "1024"),
+            (zaluxhoni.BadSizeError, lambda: s.relocate(1030), "1030"),
+            (zaluxhoni.BadGrowthError, lambda: s.grow(33), "33", "32"),
+            (zaluxhoni.TooLargeError, lambda: s.grow(2**30), "1024", "1073741824"),
+            (zaluxhoni.WrongKindError, lambda: s.find("i64", "v"), "'v'", "vec<i64>"),
+            (zaluxhoni.WrongKindError, lambda: s.vector("text"), "'text'", "string", "vec<i64>"),
+            (zaluxhoni.WrongKindError, lambda: s.map("n"), "'n'", "i64", "map<i64,i64>"),
+            (zaluxhoni.UnsupportedVersionError, lambda: zaluxhoni.load(bytes(version)), "version 9", "segment migrate"),
+            (zaluxhoni.UnsupportedVersionError, lambda: zaluxhoni.check(bytes(version)), "version 9",
+             "segment migrate"),
+            (zaluxhoni.UnsupportedVersionError, lambda: zaluxhoni.open(bad, "r"), repr(bad), "segment migrate")):
         try:
             call()
         except zaluxhoni.Error as raised:
@@ -2378,10 +2409,11 @@ def what_messages_say():
                        (path_of("said-link"), os.path.realpath(path) + "-log")):
         try:
             zaluxhoni.open(given, "w")
-        except zaluxhoni.FileLogForeign as error:
-            same((error.filename, repr(log) in str(error), pickle.loads(pickle.dumps(error)).filename), (log, True, log))
+        except zaluxhoni.FileLogForeignError as error:
+            same((error.filename, repr(log) in str(error), pickle.loads(pickle.dumps(error)).filename),
+                 (log, True, log))
         else:
-            fails("no FileLogForeign")
+            fails("no FileLogForeignError")
     os.unlink(f"{path}-log")
     os.unlink(path_of("said-link"))
 
@@ -2390,9 +2422,9 @@ def a_wait_for_the_writer():
     path = new("waited")
     s = zaluxhoni.open(path, "x", size=1024)
     for timeout in (None, 0, 0.0):
-        raises(zaluxhoni.FileInUse, zaluxhoni.open, path, "w", timeout=timeout)
+        raises(zaluxhoni.FileInUseError, zaluxhoni.open, path, "w", timeout=timeout)
     start = time.monotonic()
-    raises(zaluxhoni.FileInUse, zaluxhoni.open, path, "w", timeout=0.4)
+    raises(zaluxhoni.FileInUseError, zaluxhoni.open, path, "w", timeout=0.4)
     same(0.4 <= time.monotonic() - start < 30, True)
     s["a"] = 5
     waits = "with zaluxhoni.open(sys.argv[1], 'w', timeout=60) as s: s['a'] += 1"
@@ -2404,10 +2436,10 @@ def a_wait_for_the_writer():
     same((other.wait(), other.stdout.close()), (0, None))
     with zaluxhoni.open(path, "w", timeout=5) as s:
         same(s["a"], 6)
-    raises(zaluxhoni.FileMissing, zaluxhoni.open, path + "none", "w", timeout=5)
+    raises(zaluxhoni.FileMissingError, zaluxhoni.open, path + "none", "w", timeout=5)
     for timeout in (-1, float("nan")):
-        raises(zaluxhoni.BadValue, zaluxhoni.open, path, "w", timeout=timeout)
-    raises(zaluxhoni.WrongKind, zaluxhoni.open, path, "w", timeout="soon")
+        raises(zaluxhoni.BadValueError, zaluxhoni.open, path, "w", timeout=timeout)
+    raises(zaluxhoni.WrongKindError, zaluxhoni.open, path, "w", timeout="soon")
 
 
 def the_module_as_program():
@@ -2452,9 +2484,9 @@ def segments_grow():
         made.close()
     with zaluxhoni.open(path, "w", grow=False) as s:
         same(s.growing, False)
-        raises(zaluxhoni.NoSpace, s["v"].extend, range(10000))
+        raises(zaluxhoni.NoSpaceError, s["v"].extend, range(10000))
     for made in (zaluxhoni.create(1024, grow=False), zaluxhoni.load(create(1024).image(), grow=False)):
-        raises(zaluxhoni.NoSpace, set_item, made, "v", range(10000))
+        raises(zaluxhoni.NoSpaceError, set_item, made, "v", range(10000))
         same(made.size, 1024)
 
 
@@ -2467,7 +2499,7 @@ def storage_that_cannot_double():
     v.insert(0, 3)
     v.extend([4, 5])
     same((len(v), v[0], v[-1], v.capacity < 10000, s.sanity()), (8003, 3, 5, True, True))
-    raises(zaluxhoni.NoSpace, v.extend, [0] * 5000)
+    raises(zaluxhoni.NoSpaceError, v.extend, [0] * 5000)
     same(len(v), 8003)
     s = create(65536)
     text = s.construct("string", "text", "a" * 40000)
@@ -2498,8 +2530,8 @@ def texts_that_stay_bytes():
     same((blobs.pop("c"), blobs.group("sub/").setdefault("d", b"\xfc"), s.group("blobs/")["sub/d"]),
          (b"\xfd", b"\xfc", "\udcfc"))
     same((blobs.group("sub/", encoding="latin-1")["d"], s.group("", encoding=None)["blobs/a"]), ("\xfc", b"b"))
-    raises(zaluxhoni.BadValue, s.group, "x", encoding="none such")
-    raises(zaluxhoni.BadValue, s.group, "x", encoding=5)
+    raises(zaluxhoni.BadValueError, s.group, "x", encoding="none such")
+    raises(zaluxhoni.BadValueError, s.group, "x", encoding=5)
     # the encoding of a segment counts where a group has none of its own
     s.encoding = None
     same((s["blobs/a"], s.group("blobs/")["a"], blobs.group("", encoding="utf-8")["a"]), (b"b", b"b", "b"))
@@ -2543,7 +2575,7 @@ def records_of_dataclasses():
     articles.sort(key=lambda each: -each.weight)
     same([each.number for each in articles], [9, 8, 7])
     for value in (Article(0.5, 2**31, True), Article("a", 1, True), (1.5, 8), 5, None):
-        raises(zaluxhoni.WrongKind, articles.append, value)
+        raises(zaluxhoni.WrongKindError, articles.append, value)
     if hasattr(typing, "Annotated"):
         @dataclasses.dataclass
         class Narrow:
@@ -2553,10 +2585,10 @@ def records_of_dataclasses():
         narrow = s.records("narrow", Narrow)
         narrow.append(Narrow(-5, 0.5, 255))
         same((narrow[0], len(s["narrow"])), (Narrow(-5, 0.5, 255), 12))
-        raises(zaluxhoni.WrongKind, narrow.append, Narrow(2**15, 0.5, 1))
+        raises(zaluxhoni.WrongKindError, narrow.append, Narrow(2**15, 0.5, 1))
     points = s.records("points", Spot)
-    raises(zaluxhoni.WrongKind, s.records, "texts", dataclasses.make_dataclass("Texts", [("text", str)]))
-    raises(zaluxhoni.BadValue, s.records, "none", dataclasses.make_dataclass("None_", []))
+    raises(zaluxhoni.WrongKindError, s.records, "texts", dataclasses.make_dataclass("Texts", [("text", str)]))
+    raises(zaluxhoni.BadValueError, s.records, "none", dataclasses.make_dataclass("None_", []))
     points.append(Spot(1.0, 2.0))
     same((points[0], len(s["points"])), (Spot(1.0, 2.0), 16))
 
@@ -2623,20 +2655,19 @@ def large_pages():
 
 for case in (an_anonymous_object, names, index_and_object_do_not_both_fit, arrays, the_only_object_of_its_kind,
              places_reserved_in_the_indexes, best_fit, storage_is_lengthened_then_replaced, a_string_grows_and_shrinks,
-             a_map,
-             refusals_of_a_vector, a_vector_of_strings, objects_found_or_made, every_kind_of_scalar, many_at_once,
-             one_of_each,
-             a_segment_as_a_dict, maps_are_made_whole, values_of_one_kind_alone, a_mapping_as_dict_is_one,
-             refusals_have_names,
-             copies, a_list_as_list_is_one, threads_that_follow_each_other, one_segment_of_many_threads, groups,
-             transactions,
-             records, views, undone_beside_views, what_cannot_be_undone, saves_in_a_transaction, size_and_region, calls_of_c, what_is_refused, what_shows_a_class, one_thread, files,
-             files_that_are_mapped, files_that_are_durable, what_is_refused_by_name, a_process_that_forks, paths_of_each_type, a_relative_path, files_that_fail,
-             files_that_fail_to_grow, what_is_read_again, what_is_not_closed, the_end_of_the_process, the_end_of_a_block, errors_are_copied,
-             none_is_no_name, records_of_other_packages, records_as_list_are_one, tasks_with_transactions,
-             numbers_beyond_all, small_rules, no_space_says_more, what_messages_say, a_wait_for_the_writer, the_module_as_program,
-             segments_grow, storage_that_cannot_double, texts_that_stay_bytes, records_of_dataclasses,
-             threads_that_shorten, large_pages):
+             a_map, refusals_of_a_vector, a_vector_of_strings, objects_found_or_made, every_kind_of_scalar,
+             many_at_once, one_of_each, a_segment_as_a_dict, maps_are_made_whole, values_of_one_kind_alone,
+             a_mapping_as_dict_is_one, refusals_have_names, copies, a_list_as_list_is_one,
+             threads_that_follow_each_other, one_segment_of_many_threads, groups, transactions, records, views,
+             undone_beside_views, what_cannot_be_undone, saves_in_a_transaction, size_and_region, calls_of_c,
+             what_is_refused, what_shows_a_class, one_thread, files, files_that_are_mapped, files_that_are_durable,
+             what_is_refused_by_name, a_process_that_forks, paths_of_each_type, a_relative_path, files_that_fail,
+             files_that_fail_to_grow, what_is_read_again, what_is_not_closed, the_end_of_the_process,
+             the_end_of_a_block, errors_are_copied, names_of_version_0_9, none_is_no_name, records_of_other_packages,
+             records_as_list_are_one,
+             tasks_with_transactions, numbers_beyond_all, small_rules, no_space_says_more, what_messages_say,
+             a_wait_for_the_writer, the_module_as_program, segments_grow, storage_that_cannot_double,
+             texts_that_stay_bytes, records_of_dataclasses, threads_that_shorten, large_pages):
     try:
         case()
     except Exception as error:

@@ -103,7 +103,7 @@ def loop(path, by_one_file, said):
             else:
                 segment.close()
                 segment = None
-        except zaluxhoni.FileInUse:
+        except zaluxhoni.FileInUseError:
             time.sleep(0.0001)
             continue
         except (zaluxhoni.Error, OSError) as error:

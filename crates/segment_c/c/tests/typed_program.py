@@ -80,7 +80,7 @@ def main() -> None:
             with segment.transaction():
                 segment["n"] = 1
                 segment[zaluxhoni.unique("u64")]
-        except zaluxhoni.NotFound as error:
+        except zaluxhoni.NotFoundError as error:
             code: Optional[int] = error.code
         assert (pair, found, last, total(prices), texts_of(segment)) == ((7, 250), None, 3, 550, ["ONE"])
         assert names == ["prices", "queue", "text", "texts"] and kinds["more/n"] == "i64" and code == 6

@@ -65,13 +65,13 @@ def arrays_as_elements():
     same(i64.copy(), [0, 3, 6, 9])
     i64.assign(numpy.array([], "i8"))
     same(i64.copy(), [])
-    raises(zaluxhoni.OutOfRange, i32.assign, numpy.array([2**31]))
-    raises(zaluxhoni.WrongKind, i32.assign, numpy.array([1.5]))
-    raises(zaluxhoni.WrongKind, i32.assign, numpy.array([True]))
-    raises(zaluxhoni.WrongKind, i32.assign, numpy.array([[1, 2], [3, 4]]))
-    raises(zaluxhoni.WrongKind, i32.assign, numpy.array(5))
-    raises(zaluxhoni.WrongKind, s["bool"].assign, numpy.array([1, 0]))
-    raises(zaluxhoni.WrongKind, set_item, s, "float", numpy.array([1.5]))
+    raises(zaluxhoni.OutOfRangeError, i32.assign, numpy.array([2**31]))
+    raises(zaluxhoni.WrongKindError, i32.assign, numpy.array([1.5]))
+    raises(zaluxhoni.WrongKindError, i32.assign, numpy.array([True]))
+    raises(zaluxhoni.WrongKindError, i32.assign, numpy.array([[1, 2], [3, 4]]))
+    raises(zaluxhoni.WrongKindError, i32.assign, numpy.array(5))
+    raises(zaluxhoni.WrongKindError, s["bool"].assign, numpy.array([1, 0]))
+    raises(zaluxhoni.WrongKindError, set_item, s, "float", numpy.array([1.5]))
     s["number"], s["truth"] = numpy.int32(7), numpy.bool_(True)
     same((s["number"], s["truth"]), (7, True))
     m = s.map("m")
@@ -92,9 +92,9 @@ def arrays_as_elements():
         again.update(numpy.asarray(other))
         again.update(zip(numpy.arange(3), numpy.array(SOME[kind], dtype)))
         same(again == other, True)
-    raises(zaluxhoni.OutOfRange, s["map of i32"].update, numpy.array([(1, 2**31)], "i8,i8"))
-    raises(zaluxhoni.WrongKind, s["map of i32"].update, numpy.array([(1, 0.5)], "i8,f8"))
-    raises(zaluxhoni.WrongKind, s["map of i32"].update, numpy.array([(1, True)], "i8,?"))
+    raises(zaluxhoni.OutOfRangeError, s["map of i32"].update, numpy.array([(1, 2**31)], "i8,i8"))
+    raises(zaluxhoni.WrongKindError, s["map of i32"].update, numpy.array([(1, 0.5)], "i8,f8"))
+    raises(zaluxhoni.WrongKindError, s["map of i32"].update, numpy.array([(1, True)], "i8,?"))
 
 
 def elements_as_arrays():
@@ -122,7 +122,7 @@ def arrays_without_a_copy():
     same((int(a[1]), a.flags.writeable, a.flags.owndata), (100, True, False))
     part = a[10:20].view("u8")
     del a
-    raises(zaluxhoni.Lent, v.append, 1)
+    raises(zaluxhoni.LentError, v.append, 1)
     part[0] = 7
     del part
     v.append(1)
@@ -140,10 +140,10 @@ def arrays_without_a_copy():
     a = numpy.asarray(points)
     a["x"] += 0.5
     same([tuple(map(float, point)) for point in points], [(1.5, 2.0), (3.5, 4.0)])
-    raises(zaluxhoni.Lent, points.append, (5, 6))
+    raises(zaluxhoni.LentError, points.append, (5, 6))
     del a
     points.append((5, 6))
-    raises(zaluxhoni.WrongKind, numpy.asarray, s.records("points", "<hhi"))
+    raises(zaluxhoni.WrongKindError, numpy.asarray, s.records("points", "<hhi"))
     # the whole of a segment that is closed stays for its arrays
     a = numpy.asarray(v)
     s.close()
@@ -202,16 +202,16 @@ def records():
     same((numpy.asarray(doubles).tolist(), float(doubles[1])), ([0, 0.25, 0.5, 0.75, 1], 0.25))
     same(list(s.records("doubles", "d")), [0, 0.25, 0.5, 0.75, 1])
     same(numpy.asarray(s.records("doubles", "d")).tolist(), [0, 0.25, 0.5, 0.75, 1])
-    raises(zaluxhoni.WrongKind, s.records, "objects", numpy.dtype("O"))
+    raises(zaluxhoni.WrongKindError, s.records, "objects", numpy.dtype("O"))
     # they are compared as tuples
     del a
     same((points == [(0.5, 1), (2.5, 3), (3.5, 4)], points == [(0.5, 1)], points != points.copy()),
          (True, False, False))
     same(((2.5, 3) in points, (2.5, 4) in points, points.index((3.5, 4)), points.count((9.0, 9))), (True, False, 2, 0))
     same((points < [(1.0, 0)], points.copy() == points), (True, True))
-    raises(zaluxhoni.NoElement, points.remove, (9.0, 9))
-    raises(zaluxhoni.WrongKind, points.extend, [(1.0, 2, 3)])
-    raises(zaluxhoni.WrongKind, points.append, ("a", "b"))
+    raises(zaluxhoni.NoElementError, points.remove, (9.0, 9))
+    raises(zaluxhoni.WrongKindError, points.extend, [(1.0, 2, 3)])
+    raises(zaluxhoni.WrongKindError, points.append, ("a", "b"))
     points.sort(key=lambda record: -float(record["x"]))
     points.reverse()
     points.remove((2.5, 3))
@@ -226,7 +226,7 @@ def records():
     longs = s.records("longs", "<l")
     longs.extend(numpy.array([1, -2], "<i8"))
     same(list(longs), [1, -2])
-    raises(zaluxhoni.WrongKind, points.append, "x")
+    raises(zaluxhoni.WrongKindError, points.append, "x")
 
 
 for case in (arrays_as_elements, elements_as_arrays, arrays_without_a_copy, arrays_that_stay, records):

@@ -20,17 +20,21 @@ from __future__ import annotations
 import ctypes
 import os
 import time
-from typing import Any, List, Optional
+import warnings
+from typing import TYPE_CHECKING, Any, List, Optional
 
 from . import _library
-from ._errors import (Absent, BadContainer, BadCount, BadFreeTree, BadGrowth, BadImage, BadImageSize, BadIndex, BadKey,
-                      BadKind, BadMagic, BadMode, BadName, BadObject, BadReserved, BadSize, BadTag, BadValue, Closed,
-                      DanglingLink, Error, Exists, FileError, FileExists, FileFault, FileForked, FileInStep, FileInUse,
-                      FileLogForeign, FileLogInTheWay, FileLogLeft, FileMissing, FileReplaced, FileTooLarge, FileUnsure, FileUnsynced, IsDevice,
-                      IsFolder, IsPipe, Lent, NoElement, NoFile, NoMemory, NoSpace, NotFound, NotUndone, NullSlice, OrphanBlock,
-                      OutOfRange, ReadOnly, SharedBlock, ShortBuffer, ShortRegion, TooLarge, Truncated,
-                      UnsupportedVersion, WrongKind, WrongTask, WrongThread, bad_size, image_error_of, region_error,
-                      shown)
+from ._errors import (NAMED_IN_0_9, AbsentError, BadContainerError, BadCountError, BadFreeTreeError, BadGrowthError,
+                      BadImageError, BadImageSizeError, BadIndexError, BadKeyError, BadKindError, BadMagicError,
+                      BadModeError, BadNameError, BadObjectError, BadReservedError, BadSizeError, BadTagError,
+                      BadValueError, ClosedError, DanglingLinkError, Error, ExistsError, FileError, FileFaultError,
+                      FileForkedError, FileInStepError, FileInUseError, FileLogForeignError, FileLogInTheWayError,
+                      FileLogLeftError, FileMissingError, FileReplacedError, FileTooLargeError, FileUnsureError,
+                      FileUnsyncedError, IsDeviceError, IsFolderError, IsPipeError, LentError, NoElementError,
+                      NoFileError, NoMemoryError, NoSpaceError, NotFoundError, NotUndoneError, OrphanBlockError,
+                      OutOfRangeError, PathExistsError, ReadOnlyError, SharedBlockError, ShortRegionError,
+                      TooLargeError, TruncatedError, UnsupportedVersionError, WrongKindError, WrongTaskError,
+                      WrongThreadError, bad_size, image_error_of, region_error, shown)
 from ._library import zx
 from ._objects import Array, Map, Object, String, Strings, Vector
 from ._records import Records
@@ -40,14 +44,17 @@ from ._values import Key, ObjectKey, handle, natural, unique
 
 __all__ = [
     "open", "create", "load", "check", "state", "unique", "handle", "ObjectKey", "Segment", "Group", "Transaction",
-    "Object", "Array", "Vector", "Strings", "String", "Map", "Records", "Info", "Tile", "Error", "ReadOnly", "Exists",
-    "NotFound", "WrongKind", "OutOfRange", "NoSpace", "Absent", "NoElement", "Closed", "BadKey", "BadName", "BadKind",
-    "BadValue", "BadCount", "BadSize", "BadMode", "ShortBuffer", "NullSlice", "NoMemory", "ShortRegion", "BadGrowth",
-    "TooLarge", "Lent", "NotUndone", "WrongThread", "WrongTask", "BadImage", "Truncated", "BadMagic", "UnsupportedVersion",
-    "BadImageSize", "BadReserved", "BadTag", "BadFreeTree", "BadIndex", "BadObject", "SharedBlock", "BadContainer",
-    "OrphanBlock", "NoFile", "FileError", "FileInUse", "FileExists", "FileMissing", "DanglingLink", "IsFolder",
-    "IsDevice", "IsPipe", "FileTooLarge", "FileFault", "FileReplaced", "FileUnsynced", "FileForked",
-    "FileLogForeign", "FileLogInTheWay", "FileLogLeft", "FileUnsure", "FileInStep",
+    "Object", "Array", "Vector", "Strings", "String", "Map", "Records", "Info", "Tile", "Error", "ReadOnlyError",
+    "ExistsError", "NotFoundError", "WrongKindError", "OutOfRangeError", "NoSpaceError", "AbsentError",
+    "NoElementError", "ClosedError", "BadKeyError", "BadNameError", "BadKindError", "BadValueError", "BadCountError",
+    "BadSizeError", "BadModeError", "NoMemoryError", "ShortRegionError", "BadGrowthError", "TooLargeError", "LentError",
+    "NotUndoneError", "WrongThreadError", "WrongTaskError", "BadImageError", "TruncatedError", "BadMagicError",
+    "UnsupportedVersionError", "BadImageSizeError", "BadReservedError", "BadTagError", "BadFreeTreeError",
+    "BadIndexError", "BadObjectError", "SharedBlockError", "BadContainerError", "OrphanBlockError", "NoFileError",
+    "FileError", "FileInUseError", "PathExistsError", "FileMissingError", "DanglingLinkError", "IsFolderError",
+    "IsDeviceError", "IsPipeError", "FileTooLargeError", "FileFaultError", "FileReplacedError", "FileUnsyncedError",
+    "FileForkedError", "FileLogForeignError", "FileLogInTheWayError", "FileLogLeftError", "FileUnsureError",
+    "FileInStepError",
 ]
 
 
@@ -62,40 +69,50 @@ def __dir__() -> List[str]:
     return [*__all__, "__all__", "__doc__", "__name__", "__version__"]
 
 
+if not TYPE_CHECKING:
+    def __getattr__(name: str) -> Any:
+        """Finds an exception by its name of version 0.9. A later version has these names no more."""
+        kind = NAMED_IN_0_9.get(name)
+        if kind is None:
+            raise AttributeError(f"module {__name__!r} has no attribute {name!r}")
+        warnings.warn(f"zaluxhoni.{name} is now zaluxhoni.{kind.__name__}", DeprecationWarning, stacklevel=2)
+        return kind
+
+
 def _image_bytes(image: Any) -> bytes:
     try:
         return bytes(memoryview(image))
     except TypeError:
-        raise WrongKind(f"{type(image).__name__} is no image") from None
+        raise WrongKindError(f"{type(image).__name__} is no image") from None
 
 
 def create(size: int, *, grow: bool = True, encoding: Optional[str] = "utf-8",
            check_same_thread: bool = True) -> Segment:
     """Creates an empty segment of `size` bytes, without a file. It becomes longer if there is no space, unless `grow`
-    is false. BadSize, NoMemory."""
+    is false. BadSizeError, NoMemoryError."""
     made, wanted = new_segment(grow, encoding, check_same_thread), natural(size)
     code = made._code(zx.zx_create, wanted)
     if code:
-        raise bad_size(wanted) if code == BadSize.code else made._error(code)
+        raise bad_size(wanted) if code == BadSizeError.code else made._error(code)
     return made
 
 
 def load(image: Any, mode: str = "w", *, capacity: Optional[int] = None, grow: bool = True,
          encoding: Optional[str] = "utf-8", check_same_thread: bool = True) -> Segment:
     """Opens a copy of an image, without a file. `mode` is "w", "r" for reading, or "p" for changes that are never
-    saved. `capacity` is the length of its region in bytes: a multiple of 16. BadImage, BadMode, ShortRegion,
-    BadSize."""
+    saved. `capacity` is the length of its region in bytes: a multiple of 16. BadImageError, BadModeError,
+    ShortRegionError, BadSizeError."""
     image = _image_bytes(image)
     if not isinstance(mode, str) or mode not in MODES:
-        raise BadMode(f"no mode is {shown(mode)}")
+        raise BadModeError(f"no mode is {shown(mode)}")
     made = new_segment(grow, encoding, check_same_thread)
     wanted = max(16, (len(image) + 15) // 16 * 16) if capacity is None else natural(capacity)
     place = ctypes.c_uint64()
     code = made._code(zx.zx_open_explained, image, len(image), wanted, MODES[mode], place)
-    if code == ShortRegion.code and capacity is None:
+    if code == ShortRegionError.code and capacity is None:
         # an image that states more bytes than there are is rejected by that class
-        raise image_error_of(Truncated.code, len(image))
-    if code in (ShortRegion.code, BadSize.code):
+        raise image_error_of(TruncatedError.code, len(image))
+    if code in (ShortRegionError.code, BadSizeError.code):
         raise region_error(code, wanted, len(image))
     if code:
         raise image_error_of(code, place.value, None, image)
@@ -113,19 +130,19 @@ def open(path: Any, mode: str = "c", *, size: int = 65536, grow: bool = True, en
         "x"  creates a file that must not exist                   (create_only)
         "p"  opens a file that exists; changes are private        (open_copy_on_write)
 
-    The path is a str, bytes or an os.PathLike. A new segment has `size` bytes, and its file exists at once, with an empty segment. A segment becomes longer if
-    there is no space, unless `grow` is false. In the modes that save, the file belongs to this segment until it is
-    closed: anyone else gets FileInUse, at once or after `timeout` seconds of waiting. With check_same_thread=False each
-    thread may use the segment, and each call is alone on it. With `mapped` the segment lies in the file: opening copies
-    nothing, each change is in the file at once, and `discard` reverts none; docs/C.md says what that costs. With
-    `durable` changes are private until `commit`, or the end of a transaction, puts them into the log beside the file:
-    whenever the process is killed or the power fails, the next opening finds the last commit that was done, or the one
-    under way; the modes "r" and "p" find what was committed without it. FileError, if the file is refused; BadImage,
-    BadMode, BadSize."""
+    The path is a str, bytes or an os.PathLike. A new segment has `size` bytes, and its file exists at once, with an
+    empty segment. A segment becomes longer if there is no space, unless `grow` is false. In the modes that save, the
+    file belongs to this segment until it is closed: anyone else gets FileInUseError, at once or after `timeout` seconds
+    of waiting. With check_same_thread=False each thread may use the segment, and each call is alone on it. With
+    `mapped` the segment lies in the file: opening copies nothing, each change is in the file at once, and `discard`
+    reverts none; docs/C.md says what that costs. With `durable` changes are private until `commit`, or the end of a
+    transaction, puts them into the log beside the file: whenever the process is killed or the power fails, the next
+    opening finds the last commit that was done, or the one under way; the modes "r" and "p" find what was committed
+    without it. FileError, if the file is refused; BadImageError, BadModeError, BadSizeError."""
     if not isinstance(mode, str) or mode not in FILE_MODES:
-        raise BadMode(f"no mode is {shown(mode)}")
+        raise BadModeError(f"no mode is {shown(mode)}")
     if durable and mode in "rp":
-        raise BadMode(f"mode {mode!r} saves nothing, so it takes no durable=True: the modes 'w', 'c' and 'x' do")
+        raise BadModeError(f"mode {mode!r} saves nothing, so it takes no durable=True: the modes 'w', 'c' and 'x' do")
     opened = new_segment(grow, encoding, check_same_thread)
     how = FILE_MODES[mode] + (_DURABLE if durable else _MAPPED if mapped else 0)
     passed, bytes_wanted, ends = path_bytes(path), natural(size), _ends(timeout)
@@ -137,9 +154,9 @@ def open(path: Any, mode: str = "c", *, size: int = 65536, grow: bool = True, en
         try:
             opened._file_call(zx.zx_file_open, path, passed, how, bytes_wanted)
             break
-        except BadSize:
+        except BadSizeError:
             raise bad_size(bytes_wanted, path) from None
-        except FileInUse:
+        except FileInUseError:
             if discard_lost():
                 continue
             left = ends - time.monotonic()
@@ -156,9 +173,9 @@ def _ends(timeout: Optional[float]) -> float:
     try:
         seconds = 0.0 if timeout is None else float(timeout)
     except (TypeError, ValueError, OverflowError):
-        raise WrongKind(f"{shown(timeout)} is no number of seconds") from None
+        raise WrongKindError(f"{shown(timeout)} is no number of seconds") from None
     if not seconds >= 0:
-        raise BadValue(f"{shown(timeout)} is no number of seconds")
+        raise BadValueError(f"{shown(timeout)} is no number of seconds")
     return time.monotonic() + seconds
 
 
@@ -168,8 +185,8 @@ def state() -> str:
 
 
 def check(image: Any) -> None:
-    """Raises the class of BadImage that rejects the bytes, if they are no image; its `place` is the offset of a byte
-    that shows it."""
+    """Raises the class of BadImageError that rejects the bytes, if they are no image; its `place` is the offset of a
+    byte that shows it."""
     image, place = _image_bytes(image), ctypes.c_uint64()
     code = zx.zx_explain(image, len(image), place)
     if code:

@@ -32,32 +32,32 @@ class Error(Exception):
         return Exception.__str__(self)
 
 
-class ReadOnly(Error, PermissionError):
+class ReadOnlyError(Error, PermissionError):
     """The segment is open for reading."""
     code = 4
 
 
-class Exists(Error, ValueError):
+class ExistsError(Error, ValueError):
     """An object has the name, or is the unique one of its kind."""
     code = 5
 
 
-class NotFound(Error, KeyError):
+class NotFoundError(Error, KeyError):
     """No object has the name, kind or handle."""
     code = 6
 
 
-class WrongKind(Error, TypeError):
+class WrongKindError(Error, TypeError):
     """The object, or a value, is of another kind."""
     code = 7
 
 
-class OutOfRange(Error, IndexError, OverflowError):
+class OutOfRangeError(Error, IndexError, OverflowError):
     """An index is past the end, or a number outside the range of the element."""
     code = 8
 
 
-class NoSpace(Error, MemoryError):
+class NoSpaceError(Error, MemoryError):
     """No gap of the segment is long enough; `grow` makes it longer. `wanted` is how many bytes the values of the call
     have, if it has some, and `free` how many all gaps have."""
     code = 9
@@ -65,148 +65,148 @@ class NoSpace(Error, MemoryError):
     free: Optional[int] = None
 
 
-class Absent(Error, KeyError):
+class AbsentError(Error, KeyError):
     """A map has no such key."""
     code = 10
 
 
-class Closed(Error, ValueError):
+class ClosedError(Error, ValueError):
     """The segment is closed."""
     code = 16
 
 
-class BadKey(Error, ValueError):
+class BadKeyError(Error, ValueError):
     """The call takes no such key: a handle for a name or kind, or None for an object."""
     code = 17
 
 
-class BadName(Error, ValueError):
+class BadNameError(Error, ValueError):
     """A name is 1 to 255 bytes of UTF-8 without control characters."""
     code = 18
 
 
-class BadKind(Error, ValueError):
+class BadKindError(Error, ValueError):
     """No kind has this name, or the unique object is of another kind."""
     code = 19
 
 
-class BadValue(Error, ValueError):
+class BadValueError(Error, ValueError):
     """A value for a new object is outside its kind."""
     code = 20
 
 
-class BadCount(Error, ValueError):
+class BadCountError(Error, ValueError):
     """An array has 1 to 1048576 elements."""
     code = 21
 
 
-class BadSize(Error, ValueError):
+class BadSizeError(Error, ValueError):
     """A segment has 144 bytes, or a multiple of 16 from 176 to 1073741824; a region a multiple of 16, from 16 on."""
     code = 22
 
 
-class BadMode(Error, ValueError):
+class BadModeError(Error, ValueError):
     """No mode has this name."""
     code = 23
 
 
-class ShortBuffer(Error, ValueError):
+class ShortBufferError(Error, ValueError):
     """A buffer is too short; this package makes them long enough."""
     code = 24
 
 
-class NullSlice(Error, ValueError):
+class NullSliceError(Error, ValueError):
     """A pointer is null; this package passes none."""
     code = 25
 
 
-class NoMemory(Error, MemoryError):
+class NoMemoryError(Error, MemoryError):
     """The system gave no memory."""
     code = 26
 
 
-class ShortRegion(Error, ValueError):
+class ShortRegionError(Error, ValueError):
     """The region has fewer bytes than the segment."""
     code = 27
 
 
-class BadGrowth(Error, ValueError):
+class BadGrowthError(Error, ValueError):
     """A segment grows by a multiple of 16, at least 32."""
     code = 28
 
 
-class TooLarge(Error, MemoryError):
+class TooLargeError(Error, MemoryError):
     """The segment would have more than 1073741824 bytes."""
     code = 29
 
 
-class BadImage(Error, ValueError):
+class BadImageError(Error, ValueError):
     """The bytes are no image of a segment; a derived class says why. `place` is the offset of a byte that shows it."""
     code: Optional[int] = None
     place: Optional[int] = None
 
 
-class Truncated(BadImage):
+class TruncatedError(BadImageError):
     """The image states more bytes than there are."""
     code = 101
 
 
-class BadMagic(BadImage):
+class BadMagicError(BadImageError):
     """The first bytes are not those of an image."""
     code = 102
 
 
-class UnsupportedVersion(BadImage):
+class UnsupportedVersionError(BadImageError):
     """The image has another format; `segment migrate` rewrites older ones."""
     code = 103
 
 
-class BadImageSize(BadImage):
+class BadImageSizeError(BadImageError):
     """The image states an illegal size, or not the size of the bytes."""
     code = 104
 
 
-class BadReserved(BadImage):
+class BadReservedError(BadImageError):
     """Header bytes that must be 0 are not."""
     code = 105
 
 
-class BadTag(BadImage):
+class BadTagError(BadImageError):
     """The tags of the blocks are wrong."""
     code = 106
 
 
-class BadFreeTree(BadImage):
+class BadFreeTreeError(BadImageError):
     """The free tree is wrong."""
     code = 107
 
 
-class BadIndex(BadImage):
+class BadIndexError(BadImageError):
     """An index is wrong."""
     code = 108
 
 
-class BadObject(BadImage):
+class BadObjectError(BadImageError):
     """An object is wrong."""
     code = 109
 
 
-class SharedBlock(BadImage):
+class SharedBlockError(BadImageError):
     """Two owners share a block."""
     code = 110
 
 
-class BadContainer(BadImage):
+class BadContainerError(BadImageError):
     """A vector, string or map is wrong."""
     code = 111
 
 
-class OrphanBlock(BadImage):
+class OrphanBlockError(BadImageError):
     """A block has no owner."""
     code = 112
 
 
-class NoFile(Error, ValueError):
+class NoFileError(Error, ValueError):
     """The segment has no file; `save_as` creates one."""
     code = 40
 
@@ -217,135 +217,135 @@ class FileError(Error, OSError):
 
     def __init__(self, number: Optional[int] = None, path: Any = None) -> None:
         number = self.number if number is None else number
-        said = os.strerror(number) if self.code == FileFault.code else _words(self.code)
+        said = os.strerror(number) if self.code == FileFaultError.code else _words(self.code)
         OSError.__init__(self, number, said, path)
 
     def __str__(self) -> str:
         return OSError.__str__(self)
 
     def __reduce__(self) -> Tuple[Any, ...]:
-        # FileFault has a class for each errno, which no module names
-        kind = FileFault if isinstance(self, FileFault) else type(self)
+        # FileFaultError has a class for each errno, which no module names
+        kind = FileFaultError if isinstance(self, FileFaultError) else type(self)
         return _file_error, (kind, self.errno, self.filename), self.__dict__ or None
 
 
-class FileInUse(FileError, BlockingIOError):
+class FileInUseError(FileError, BlockingIOError):
     """Another program, or another segment of this one, may write the file."""
     code, number = 42, errno.EWOULDBLOCK
 
 
-class FileExists(FileError, FileExistsError):
+class PathExistsError(FileError, FileExistsError):
     """Something exists at the path."""
     code, number = 43, errno.EEXIST
 
 
-class FileMissing(FileError, FileNotFoundError):
+class FileMissingError(FileError, FileNotFoundError):
     """Nothing exists at the path, or its folder does not exist."""
     code, number = 44, errno.ENOENT
 
 
-class DanglingLink(FileError, FileNotFoundError):
+class DanglingLinkError(FileError, FileNotFoundError):
     """The path is a link that leads to nothing."""
     code, number = 45, errno.ENOENT
 
 
-class IsFolder(FileError, IsADirectoryError):
+class IsFolderError(FileError, IsADirectoryError):
     """The path leads to a folder."""
     code, number = 46, errno.EISDIR
 
 
-class IsDevice(FileError):
+class IsDeviceError(FileError):
     """The path leads to a device."""
     code, number = 47, errno.EINVAL
 
 
-class IsPipe(FileError):
+class IsPipeError(FileError):
     """The path leads to a pipe or a socket."""
     code, number = 48, errno.ESPIPE
 
 
-class FileTooLarge(FileError):
+class FileTooLargeError(FileError):
     """The file has more than 1073741824 bytes."""
     code, number = 49, errno.EFBIG
 
 
-class FileFault(FileError):
+class FileFaultError(FileError):
     """The system refused. The exception is also of the class that Python has for its `errno`, such as
     PermissionError."""
     code, number = 50, errno.EIO
 
 
-class FileReplaced(FileError):
+class FileReplacedError(FileError):
     """The name leads to another file now, which is left alone."""
     code, number = 51, errno.ESTALE
 
 
-class FileUnsynced(FileError):
+class FileUnsyncedError(FileError):
     """The file is saved, but its folder is not synced."""
     code, number = 52, errno.EIO
 
 
-class FileForked(FileError, PermissionError):
+class FileForkedError(FileError, PermissionError):
     """The file belongs to the parent of this forked process."""
     code, number = 53, errno.EPERM
 
 
-class FileLogForeign(FileError):
+class FileLogForeignError(FileError):
     """The log beside the file belongs to another file, or is damaged. `filename` is the path of the log, as in each
     error about a log."""
     code, number = 54, errno.ESTALE
 
 
-class FileLogInTheWay(FileError):
+class FileLogInTheWayError(FileError):
     """A file that is no log has the name of the log. It is left alone, and nothing is committed: move or remove it."""
     code, number = 57, errno.EEXIST
 
 
-class FileLogLeft(FileError):
+class FileLogLeftError(FileError):
     """The log of a file that is gone lies beside the name of a new file. Put that file back, or remove the log."""
     code, number = 58, errno.EEXIST
 
 
-class FileUnsure(FileError):
+class FileUnsureError(FileError):
     """A commit failed while the system synced it, and may be on the disk or not. Only `save` may follow."""
     code, number = 55, errno.EIO
 
 
-class FileInStep(FileError, BlockingIOError):
+class FileInStepError(FileError, BlockingIOError):
     """A transaction is open."""
     code, number = 56, errno.EBUSY
 
 
-class WrongThread(Error, RuntimeError):
+class WrongThreadError(Error, RuntimeError):
     """Only the thread that opened a segment uses it."""
 
     def __init__(self, *arguments: object) -> None:
         Exception.__init__(self, *(arguments or ("the segment belongs to another thread",)))
 
 
-class WrongTask(Error, RuntimeError):
+class WrongTaskError(Error, RuntimeError):
     """A transaction of another asyncio task is open; meanwhile only that task uses the segment."""
 
     def __init__(self, *arguments: object) -> None:
         Exception.__init__(self, *(arguments or ("another task has a transaction open",)))
 
 
-class NotUndone(Error, RuntimeError):
-    """A transaction failed, and memory or the system refused to undo it. The segment may have a part of its changes, and
-    is not saved any more: `discard` it."""
+class NotUndoneError(Error, RuntimeError):
+    """A transaction failed, and memory or the system refused to undo it. The segment may have a part of its changes,
+    and is not saved any more: `discard` it."""
 
     def __init__(self, *arguments: object) -> None:
         Exception.__init__(self, *(arguments or ("a transaction could not be undone: discard the segment",)))
 
 
-class NoElement(Error, ValueError):
+class NoElementError(Error, ValueError):
     """A list has no such element."""
 
     def __init__(self, *arguments: object) -> None:
         Exception.__init__(self, *(arguments or ("the list has no such element",)))
 
 
-class Lent(Error, BufferError):
+class LentError(Error, BufferError):
     """A view holds the memory of the object, or of the segment."""
 
     def __init__(self, *arguments: object) -> None:
@@ -367,10 +367,25 @@ def _all(kind: Type[Error]) -> Dict[int, Type[Error]]:
 _classes = _all(Error)
 
 
+def _named_in_0_9() -> Dict[str, Type[Error]]:
+    """Maps the names that version 0.9 had for exceptions, which do not end in `Error`, to the classes."""
+    classes = list(Error.__subclasses__())
+    names: Dict[str, Type[Error]] = {"FileExists": PathExistsError}
+    while classes:
+        kind = classes.pop()
+        classes += kind.__subclasses__()
+        if kind not in (FileError, PathExistsError, NotUndoneError, FileLogInTheWayError, FileLogLeftError):
+            names[kind.__name__[:-len("Error")]] = kind
+    return names
+
+
+NAMED_IN_0_9 = _named_in_0_9()
+
+
 def error_of(code: int, about: object = None) -> Error:
     """Returns the error of a code, with the name that the call was about."""
     kind = _classes.get(code, Error)
-    said = _name_fault(about) if kind is BadName else _words(code)
+    said = _name_fault(about) if kind is BadNameError else _words(code)
     return kind(said if about is None else f"{said}: {shown(about)}")
 
 
@@ -382,24 +397,24 @@ def _name_fault(name: object) -> str:
     return "a name has 1 to 255 bytes of UTF-8, without control characters"
 
 
-def too_large(size: int, extra: int) -> TooLarge:
+def too_large(size: int, extra: int) -> TooLargeError:
     """Returns the error of a segment of `size` bytes that cannot become longer by `extra` bytes."""
-    return TooLarge(f"the segment has {size} bytes, and {extra} more are above the limit of {LARGEST}")
+    return TooLargeError(f"the segment has {size} bytes, and {extra} more are above the limit of {LARGEST}")
 
 
 def region_error(code: int, capacity: int, size: int) -> Error:
     """Returns the error of a region of `capacity` bytes for a segment of `size`."""
-    if code == ShortRegion.code:
-        return ShortRegion(f"a region of {capacity} bytes is too short for {size} bytes")
-    if code == BadSize.code:
-        return BadSize(f"no region has {capacity} bytes: it has a multiple of 16, from 16 on")
+    if code == ShortRegionError.code:
+        return ShortRegionError(f"a region of {capacity} bytes is too short for {size} bytes")
+    if code == BadSizeError.code:
+        return BadSizeError(f"no region has {capacity} bytes: it has a multiple of 16, from 16 on")
     return error_of(code)
 
 
-def bad_size(size: int, about: object = None) -> BadSize:
+def bad_size(size: int, about: object = None) -> BadSizeError:
     """Returns the error of a new segment that cannot have so many bytes."""
     name = "" if about is None else f"{shown(about)}: "
-    return BadSize(f"{name}no segment has {size} bytes: it has 144, or a multiple of 16 from 176 to {LARGEST}")
+    return BadSizeError(f"{name}no segment has {size} bytes: it has 144, or a multiple of 16 from 176 to {LARGEST}")
 
 
 def named(error: Error, key: object) -> Error:
@@ -412,12 +427,12 @@ def named(error: Error, key: object) -> Error:
     return made
 
 
-def no_space(about: object, wanted: Optional[int], free: int) -> NoSpace:
-    """Returns the NoSpace of a call whose values have `wanted` bytes, if it has some."""
+def no_space(about: object, wanted: Optional[int], free: int) -> NoSpaceError:
+    """Returns the NoSpaceError of a call whose values have `wanted` bytes, if it has some."""
     name = "" if about is None else f": {shown(about)}"
     need = "" if wanted is None else f"{wanted} bytes wanted, "
-    error = NoSpace(f"{_words(NoSpace.code)}{name}: {need}{free} free in all gaps; grow() makes the segment longer, "
-                    "and without grow=False it becomes longer by itself")
+    error = NoSpaceError(f"{_words(NoSpaceError.code)}{name}: {need}{free} free in all gaps; grow() makes the segment "
+                         "longer, and without grow=False it becomes longer by itself")
     error.wanted, error.free = wanted, free
     return error
 
@@ -425,11 +440,12 @@ def no_space(about: object, wanted: Optional[int], free: int) -> NoSpace:
 def image_error_of(code: int, place: int, about: object = None, image: bytes = b"") -> Error:
     """Returns the error of bytes that are no image, with the offset that shows why."""
     error = error_of(code, about)
-    if isinstance(error, UnsupportedVersion):
+    if isinstance(error, UnsupportedVersionError):
         version = f": version {int.from_bytes(image[8:12], 'little')}" if image else ""
         name = "" if about is None else f": {shown(about)}"
-        error = UnsupportedVersion(f"{_words(code)}{version}{name}; `segment migrate` rewrites an image of an older one")
-    if isinstance(error, BadImage):
+        error = UnsupportedVersionError(f"{_words(code)}{version}{name}; `segment migrate` rewrites an image of an "
+                                        "older one")
+    if isinstance(error, BadImageError):
         error.place = place
     return error
 
@@ -439,7 +455,7 @@ def file_error_of(code: int, file: _library.File, path: Any) -> Error:
     kind = _classes.get(code, Error)
     if not issubclass(kind, FileError):
         return image_error_of(code, file.place, path)
-    is_of_log = kind in (FileLogForeign, FileLogInTheWay, FileLogLeft)
+    is_of_log = kind in (FileLogForeignError, FileLogInTheWayError, FileLogLeftError)
     return _file_error(kind, file.error, _log_path(path) if is_of_log else path)
 
 
@@ -450,9 +466,9 @@ def _log_path(path: Any) -> Any:
 
 
 def _file_error(kind: Type[FileError], number: Optional[int], path: Any) -> FileError:
-    """Returns the error of a file; a FileFault is also of Python's class for its errno."""
+    """Returns the error of a file; a FileFaultError is also of Python's class for its errno."""
     known, made = type(OSError(number, "")), kind  # type: Any, Any
-    if kind is FileFault and known is not OSError:
-        made = type("FileFault", (FileFault, known), {"__module__": FileFault.__module__})
+    if kind is FileFaultError and known is not OSError:
+        made = type("FileFaultError", (FileFaultError, known), {"__module__": FileFaultError.__module__})
     error: FileError = made(number, path)
     return error

@@ -9,8 +9,8 @@ from typing import (TYPE_CHECKING, Any, Dict, ItemsView, Iterable, Iterator, Key
                     MutableSequence, Optional, Sequence, SupportsIndex, Tuple, TypeVar, Union, ValuesView, overload)
 
 from . import _library
-from ._errors import (Absent, BadCount, BadValue, Error, NoElement, NoSpace, OutOfRange, TooLarge, WrongKind, named,
-                      shown)
+from ._errors import (AbsentError, BadCountError, BadValueError, Error, NoElementError, NoSpaceError, OutOfRangeError,
+                      TooLargeError, WrongKindError, named, shown)
 from ._library import BOOL, I32, I64, STRING, STRINGS, U8, U64, VECTOR, MAP, quick, zx
 from ._values import (KINDS, SCALARS, Key, Row, Texts, decoded, encoded, from_words, is_scalar, listed,
                       natural, number_in, pairs_of, raw_key, row, scalar, unpacked, value_of, whole)
@@ -95,9 +95,9 @@ def places_of(index: slice, length: int) -> range:
     try:
         return range(*index.indices(length))
     except TypeError:
-        raise WrongKind(f"{shown(index)} is no slice of places") from None
+        raise WrongKindError(f"{shown(index)} is no slice of places") from None
     except ValueError:
-        raise BadValue(f"{shown(index)} has no step") from None
+        raise BadValueError(f"{shown(index)} has no step") from None
 
 
 class Object(_library.Place):
@@ -148,12 +148,12 @@ class Object(_library.Place):
         return self._segment.encoding if self._own_encoding is SAME else self._own_encoding
 
     def info(self) -> Info:
-        """Returns its Info. NotFound."""
+        """Returns its Info. NotFoundError."""
         return self._segment.info(self._key)
 
     @property
     def handle(self) -> int:
-        """Its handle, a number. NotFound."""
+        """Its handle, a number. NotFoundError."""
         return self.info().handle
 
     def destroy(self) -> bool:
@@ -174,7 +174,7 @@ class Object(_library.Place):
         if number < 0:
             number += len(self)
         if not 0 <= number < 2**64:
-            raise OutOfRange(f"{self._key!r} has no element {shown(index)}")
+            raise OutOfRangeError(f"{self._key!r} has no element {shown(index)}")
         return number
 
     def _scalar(self, index: int) -> int:
@@ -222,7 +222,7 @@ class _Places(Object):
         return self._measure()[1]
 
     def reserve(self, places: int) -> None:
-        """Makes the capacity at least `places`. NoSpace."""
+        """Makes the capacity at least `places`. NoSpaceError."""
         self._change(zx.zx_reserve, natural(places))
 
     def trim(self) -> None:
@@ -238,7 +238,7 @@ class _Places(Object):
         the segment cannot have one, asks for less."""
         try:
             return self._change(call, *arguments)
-        except (NoSpace, TooLarge):
+        except (NoSpaceError, TooLargeError):
             if not self._has_room(more):
                 raise
         self._change(call, *arguments)
@@ -298,7 +298,7 @@ class _Elements(Object):
                 return
             try:
                 elements = self._read(place, min(many, left))
-            except OutOfRange:
+            except OutOfRangeError:
                 # another thread made it shorter
                 many = 1
                 continue
@@ -314,7 +314,7 @@ class _Elements(Object):
         for place in range(len(self) - 1, -1, -1):
             try:
                 value = self._get(place)
-            except OutOfRange:
+            except OutOfRangeError:
                 return
             yield value
 
@@ -326,13 +326,13 @@ class _Elements(Object):
         return self._all().count(value)
 
     def index(self, value: Any, start: Any = 0, stop: Any = None) -> int:
-        """Returns the first index of a value, from `start` on and before `stop`. NoElement."""
+        """Returns the first index of a value, from `start` on and before `stop`. NoElementError."""
         try:
             return self._all().index(value, start, *(() if stop is None else (stop,)))
         except TypeError as error:
-            raise WrongKind(f"{self._key!r}: {error}") from None
+            raise WrongKindError(f"{self._key!r}: {error}") from None
         except ValueError:
-            raise NoElement(f"{self._key!r} has no element {shown(value)}") from None
+            raise NoElementError(f"{self._key!r} has no element {shown(value)}") from None
 
     def _other(self, other: object) -> Optional[List[Any]]:
         """Returns the elements that are compared as a list."""
@@ -424,7 +424,7 @@ class _Scalars(_Elements):
 
     def view(self) -> memoryview:
         """Returns a memoryview of the elements in place, without a copy; it may be read-only. Writing to it changes the
-        elements. As long as it exists, calls that would move them raise Lent. NotFound."""
+        elements. As long as it exists, calls that would move them raise LentError. NotFoundError."""
         return Lease(self, self._scalar_code).view()
 
     def __array__(self, dtype: Any = None, copy: Any = None) -> Any:
@@ -472,7 +472,7 @@ class Array(_Scalars, Sequence[int]):
     def _set_slice(self, index: slice, value: Any) -> None:
         places, values = places_of(index, len(self)), listed(value)
         if len(places) != len(values):
-            raise BadCount(f"{self._key!r}: {len(values)} values for {len(places)}")
+            raise BadCountError(f"{self._key!r}: {len(values)} values for {len(places)}")
         self._write_to(places, values)
 
     def _become(self, value: Any) -> None:
@@ -482,7 +482,7 @@ class Array(_Scalars, Sequence[int]):
         elif is_list_for(self._code, value):
             self[:] = value
         else:
-            raise WrongKind(f"{self._key!r}: {shown(value)} is no list")
+            raise WrongKindError(f"{self._key!r}: {shown(value)} is no list")
 
 
 class _List(_Places, _Elements):
@@ -499,7 +499,7 @@ class _List(_Places, _Elements):
         raise NotImplementedError
 
     def append(self, value: Any) -> None:
-        """Appends a value. NoSpace, OutOfRange, WrongKind."""
+        """Appends a value. NoSpaceError, OutOfRangeError, WrongKindError."""
         self._insert(len(self), value)
 
     def assign(self, values: Iterable[Any]) -> None:
@@ -512,7 +512,7 @@ class _List(_Places, _Elements):
         if places.step == 1 and len(places) == len(values) and isinstance(self, _Scalars):
             return self._write_to(places, values)
         if places.step != 1 and len(places) != len(values):
-            raise BadCount(f"{self._key!r}: {len(values)} values for {len(places)}")
+            raise BadCountError(f"{self._key!r}: {len(values)} values for {len(places)}")
         elements[index] = values
         self.assign(elements)
 
@@ -530,7 +530,7 @@ class _List(_Places, _Elements):
         self._insert(min(max(place + length if place < 0 else place, 0), length), value)
 
     def pop(self, index: int = -1) -> Any:
-        """Removes an element, the last one by default, and returns it. OutOfRange."""
+        """Removes an element, the last one by default, and returns it. OutOfRangeError."""
         if whole(index) == -1:
             return self._pop()
         place = self._place(index)
@@ -539,11 +539,11 @@ class _List(_Places, _Elements):
         return value
 
     def remove(self, value: Any) -> None:
-        """Removes the first element with a value. NoElement."""
+        """Removes the first element with a value. NoElementError."""
         del self[self.index(value)]
 
     def extend(self, values: Iterable[Any]) -> None:
-        """Appends values: all of them, or none. NoSpace, OutOfRange, WrongKind."""
+        """Appends values: all of them, or none. NoSpaceError, OutOfRangeError, WrongKindError."""
         self._extend(values._all() if isinstance(values, _Elements) else values)  # type: ignore[arg-type]
 
     def reverse(self) -> None:
@@ -568,7 +568,7 @@ class _List(_Places, _Elements):
 
     def _become(self, value: Any) -> None:
         if not is_list_for(self._code, value):
-            raise WrongKind(f"{self._key!r}: {shown(value)} is no list")
+            raise WrongKindError(f"{self._key!r}: {shown(value)} is no list")
         self.assign(value)
 
 
@@ -588,7 +588,7 @@ class Vector(_Scalars, _List, MutableSequence[int]):
         return number_in(value)
 
     def append(self, value: int) -> None:
-        """Appends a value. NoSpace, OutOfRange, WrongKind."""
+        """Appends a value. NoSpaceError, OutOfRangeError, WrongKindError."""
         segment = self._segment
         segment._changes += 1
         if not segment._lent and self._at(-1, value):
@@ -600,7 +600,7 @@ class Vector(_Scalars, _List, MutableSequence[int]):
         self._lengthen(added.count, zx.zx_extend, added.passed)
 
     def assign(self, values: Iterable[int]) -> None:
-        """Replaces all elements: by all values, or none. NoSpace, OutOfRange, WrongKind."""
+        """Replaces all elements: by all values, or none. NoSpaceError, OutOfRangeError, WrongKindError."""
         self._change(zx.zx_assign, self._row(values._all() if isinstance(values, _Elements) else values).passed)
 
 
@@ -685,7 +685,7 @@ class Strings(_List, MutableSequence[str]):
         return last
 
     def append(self, value: Union[str, bytes]) -> None:
-        """Appends a string. NoSpace, WrongKind."""
+        """Appends a string. NoSpaceError, WrongKindError."""
         text = self._bytes(value)
         self._change(zx.zx_push_text, text, len(text))
 
@@ -699,7 +699,7 @@ class Strings(_List, MutableSequence[str]):
             raise
 
     def assign(self, values: Iterable[Union[str, bytes]]) -> None:
-        """Replaces all strings: by all values, or none. NoSpace, WrongKind."""
+        """Replaces all strings: by all values, or none. NoSpaceError, WrongKindError."""
         texts = self._texts(values._all() if isinstance(values, _Elements) else values)
         self._change(zx.zx_assign_texts, texts.passed, texts.count)
 
@@ -778,7 +778,7 @@ class String(_Places):
             text = bytearray(self._text())
             places, part = places_of(index, len(text)), self._bytes(value)
             if places.step != 1 and len(places) != len(part):
-                raise BadCount(f"{self._key!r}: {len(part)} bytes for {len(places)}")
+                raise BadCountError(f"{self._key!r}: {len(part)} bytes for {len(places)}")
             text[index] = part
             return self.assign(bytes(text))
         try:
@@ -797,12 +797,12 @@ class String(_Places):
         return part in list(self._text())
 
     def assign(self, text: Any) -> None:
-        """Replaces the text by a str or bytes. NoSpace, WrongKind."""
+        """Replaces the text by a str or bytes. NoSpaceError, WrongKindError."""
         passed = self._bytes(text)
         self._change(zx.zx_assign_string, passed, len(passed))
 
     def append(self, text: Any) -> None:
-        """Appends a str or bytes. NoSpace, WrongKind."""
+        """Appends a str or bytes. NoSpaceError, WrongKindError."""
         passed = self._bytes(text)
         self._lengthen(len(passed), zx.zx_append, passed, len(passed))
 
@@ -920,7 +920,7 @@ class Map(_Pairs, Object, MutableMapping[int, int]):
     def _item(self, key: Any) -> int:
         value = self._get(key)
         if value is None:
-            raise Absent(f"the map {self._key!r} has no key {shown(key)}")
+            raise AbsentError(f"the map {self._key!r} has no key {shown(key)}")
         return value
 
     def _get(self, key: Any) -> Optional[int]:
@@ -956,7 +956,7 @@ class Map(_Pairs, Object, MutableMapping[int, int]):
 
     def __delitem__(self, key: int) -> None:
         if self._get(key) is None:
-            raise Absent(f"the map {self._key!r} has no key {shown(key)}")
+            raise AbsentError(f"the map {self._key!r} has no key {shown(key)}")
         self.erase(key)
 
     def _number(self, code: int, value: Any) -> _library.Value:
@@ -966,7 +966,7 @@ class Map(_Pairs, Object, MutableMapping[int, int]):
             raise self._named(error) from None
 
     def put(self, key: int, value: int) -> bool:
-        """Puts a value at a key, and returns whether the key is new. NoSpace, OutOfRange, WrongKind."""
+        """Puts a value at a key, and returns whether the key is new. NoSpaceError, OutOfRangeError, WrongKindError."""
         is_new = ctypes.c_bool()
         at, passed = self._number(self._key_code, key), self._number(self._value_code, value)
         self._segment._changes += 1
@@ -974,7 +974,7 @@ class Map(_Pairs, Object, MutableMapping[int, int]):
         return is_new.value
 
     def erase(self, key: int) -> bool:
-        """Removes a key, and returns whether it existed. OutOfRange, WrongKind."""
+        """Removes a key, and returns whether it existed. OutOfRangeError, WrongKindError."""
         was_there = ctypes.c_bool()
         at = self._number(self._key_code, key)
         self._segment._changes += 1
@@ -986,7 +986,7 @@ class Map(_Pairs, Object, MutableMapping[int, int]):
         return self._pair(zx.zx_map_first)
 
     def next_after(self, key: int) -> Optional[Tuple[int, int]]:
-        """Returns the pair with the least key above another, or None. OutOfRange, WrongKind."""
+        """Returns the pair with the least key above another, or None. OutOfRangeError, WrongKindError."""
         return self._pair(zx.zx_map_next, self._number(self._key_code, key))
 
     def _pair(self, call: Any, *after: Any) -> Optional[Tuple[int, int]]:
@@ -1073,21 +1073,21 @@ class Map(_Pairs, Object, MutableMapping[int, int]):
     __hash__ = None  # type: ignore[assignment]
 
     def popitem(self) -> Tuple[int, int]:
-        """Removes the pair with the least key, and returns it. Absent."""
+        """Removes the pair with the least key, and returns it. AbsentError."""
         pair = self.first()
         if pair is None:
-            raise Absent(f"the map {self._key!r} is empty")
+            raise AbsentError(f"the map {self._key!r} is empty")
         self.erase(pair[0])
         return pair
 
     def pop(self, key: Any, default: Any = _missing) -> Any:
-        """Removes a key and returns its value; for a missing key it returns `default`, or raises Absent."""
+        """Removes a key and returns its value; for a missing key it returns `default`, or raises AbsentError."""
         value = self._get(key)
         if value is not None:
             self.erase(key)
             return value
         if default is _missing:
-            raise Absent(f"the map {self._key!r} has no key {shown(key)}")
+            raise AbsentError(f"the map {self._key!r} has no key {shown(key)}")
         return default
 
     def clear(self) -> None:
@@ -1097,9 +1097,9 @@ class Map(_Pairs, Object, MutableMapping[int, int]):
 
     def update(self, *others: Any, **named: Any) -> None:
         """Puts the pairs of a mapping, of a list of pairs, or of a numpy array with two fields. It puts none if one is
-        outside the kinds of the map: OutOfRange, WrongKind. After NoSpace the first ones are put."""
+        outside the kinds of the map: OutOfRangeError, WrongKindError. After NoSpaceError the first ones are put."""
         if len(others) > 1:
-            raise WrongKind(f"update of {self._key!r} takes one mapping, not {len(others)}")
+            raise WrongKindError(f"update of {self._key!r} takes one mapping, not {len(others)}")
         self._put_all(dict_of(self, *others, **named))
 
     def _put_all(self, pairs: Dict[Any, Any]) -> None:
@@ -1113,7 +1113,7 @@ class Map(_Pairs, Object, MutableMapping[int, int]):
     def _become(self, value: Any) -> None:
         """Replaces all pairs; a pair that stays keeps its block."""
         if not isinstance(value, collections.abc.Mapping):
-            raise WrongKind(f"{self._key!r}: {shown(value)} is no mapping")
+            raise WrongKindError(f"{self._key!r}: {shown(value)} is no mapping")
         pairs = dict(value)
         try:
             pairs_of(self._code, pairs)
@@ -1134,9 +1134,9 @@ def dict_of(about: Any, *others: Any, **named: Any) -> Dict[Any, Any]:
     except Error:
         raise
     except TypeError as error:
-        raise WrongKind(f"{about._key!r}: {error}") from None
+        raise WrongKindError(f"{about._key!r}: {error}") from None
     except ValueError as error:
-        raise BadValue(f"{about._key!r}: {error}") from None
+        raise BadValueError(f"{about._key!r}: {error}") from None
 
 
 def _plain_pairs(other: Any) -> Any:

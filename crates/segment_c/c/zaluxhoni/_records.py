@@ -9,7 +9,7 @@ import struct
 import typing
 from typing import TYPE_CHECKING, Any, Callable, Iterable, Iterator, List, MutableSequence
 
-from ._errors import BadCount, BadValue, Error, NoElement, OutOfRange, WrongKind, shown
+from ._errors import BadCountError, BadValueError, Error, NoElementError, OutOfRangeError, WrongKindError, shown
 from ._objects import Array, Vector, places_of
 from ._values import listed, whole
 
@@ -58,7 +58,7 @@ def _form_of_dataclass(form: Any) -> _Form:
     try:
         hints = typing.get_type_hints(form, **extras)
     except (NameError, TypeError) as error:
-        raise WrongKind(f"{form.__name__}: {error}") from None
+        raise WrongKindError(f"{form.__name__}: {error}") from None
     names = [field.name for field in dataclasses.fields(form) if field.init]
     letters = [_letter_of(form, name, hints[name]) for name in names]
     longest = max(letters, key=struct.calcsize, default="B")
@@ -77,7 +77,7 @@ def _letter_of(form: Any, name: str, hint: Any) -> str:
     letters = [each for each in (*getattr(hint, "__metadata__", ()), _LETTERS.get(hint), getattr(hint, "_type_", None))
                if isinstance(each, str) and len(each) == 1 and each in "?bBhHiIlLqQfd"]
     if not letters:
-        raise WrongKind(f"{form.__name__}.{name} is no number: records have fields of float, int, bool, "
+        raise WrongKindError(f"{form.__name__}.{name} is no number: records have fields of float, int, bool, "
                         'Annotated[int, "i"] or ctypes.c_int32')
     return letters[0]
 
@@ -117,11 +117,11 @@ def _form_of(form: Any) -> _Form:
         elif hasattr(form, "itemsize") and not getattr(form, "hasobject", True):
             made = _form_of_dtype(form)
         else:
-            raise WrongKind(f"{shown(form)} is no form of records")
+            raise WrongKindError(f"{shown(form)} is no form of records")
     except struct.error as error:
-        raise BadValue(f"{shown(form)}: {error}") from None
+        raise BadValueError(f"{shown(form)}: {error}") from None
     if made.size == 0:
-        raise BadValue(f"{shown(form)} has no bytes")
+        raise BadValueError(f"{shown(form)} has no bytes")
     return made
 
 
@@ -148,7 +148,7 @@ class Records(MutableSequence[Any]):
     def __len__(self) -> int:
         count = len(self._elements)
         if count % self._form.size:
-            raise BadCount(f"{self._elements.key!r} has {count} bytes, and no records of {self._form.size}")
+            raise BadCountError(f"{self._elements.key!r} has {count} bytes, and no records of {self._form.size}")
         return count // self._form.size
 
     def _bytes(self, value: Any) -> bytes:
@@ -157,9 +157,9 @@ class Records(MutableSequence[Any]):
         except Error:
             raise
         except (struct.error, TypeError, ValueError, OverflowError) as error:
-            raise WrongKind(f"{self._elements.key!r}: {shown(value)} is no {self._given!r}: {error}") from None
+            raise WrongKindError(f"{self._elements.key!r}: {shown(value)} is no {self._given!r}: {error}") from None
         if len(record) != self._form.size:
-            raise WrongKind(f"{self._elements.key!r}: {shown(value)} is no {self._given!r}")
+            raise WrongKindError(f"{self._elements.key!r}: {shown(value)} is no {self._given!r}")
         return record
 
     def _joined(self, values: Any) -> bytes:
@@ -184,7 +184,7 @@ class Records(MutableSequence[Any]):
         place = whole(index)
         place += length if place < 0 else 0
         if not 0 <= place < length:
-            raise OutOfRange(f"{self._elements.key!r} has no record {shown(index)}")
+            raise OutOfRangeError(f"{self._elements.key!r} has no record {shown(index)}")
         return place
 
     def __getitem__(self, index: Any) -> Any:
@@ -206,7 +206,7 @@ class Records(MutableSequence[Any]):
         places, joined = places_of(index, length), self._joined(value)
         count = len(joined) // size
         if len(places) != count and (places.step != 1 or isinstance(self._elements, Array)):
-            raise BadCount(f"{self._elements.key!r}: {count} values for {len(places)}")
+            raise BadCountError(f"{self._elements.key!r}: {count} values for {len(places)}")
         if len(places) != count:
             self._splice(places.start, places.stop if places else places.start, joined)
         elif places:
@@ -231,7 +231,7 @@ class Records(MutableSequence[Any]):
 
     def _vector(self) -> Vector:
         if not isinstance(self._elements, Vector):
-            raise WrongKind(f"{self._elements.key!r} is an array, whose length stays")
+            raise WrongKindError(f"{self._elements.key!r} is an array, whose length stays")
         return self._elements
 
     def __delitem__(self, index: Any) -> None:
@@ -247,8 +247,8 @@ class Records(MutableSequence[Any]):
             self._vector().assign(kept)
 
     def insert(self, index: int, value: Any) -> None:
-        """Inserts a record before the one at `index`; an index past an end means that end, as for a list. NoSpace,
-        WrongKind."""
+        """Inserts a record before the one at `index`; an index past an end means that end, as for a list. NoSpaceError,
+        WrongKindError."""
         length, place = len(self), whole(index)
         place = min(max(place + length if place < 0 else place, 0), length)
         if place == length:
@@ -256,15 +256,15 @@ class Records(MutableSequence[Any]):
         self._splice(place, place, self._bytes(value))
 
     def append(self, value: Any) -> None:
-        """Appends a record. NoSpace, WrongKind."""
+        """Appends a record. NoSpaceError, WrongKindError."""
         self._vector().extend(self._bytes(value))
 
     def extend(self, values: Iterable[Any]) -> None:
-        """Appends records: all of them, or none. NoSpace, WrongKind."""
+        """Appends records: all of them, or none. NoSpaceError, WrongKindError."""
         self._vector().extend(self._joined(values))
 
     def assign(self, values: Iterable[Any]) -> None:
-        """Replaces all records: by all values, or none. NoSpace, WrongKind."""
+        """Replaces all records: by all values, or none. NoSpaceError, WrongKindError."""
         self._vector().assign(self._joined(values))
 
     def clear(self) -> None:
@@ -272,21 +272,21 @@ class Records(MutableSequence[Any]):
         self._vector().clear()
 
     def index(self, value: Any, start: Any = 0, stop: Any = None) -> int:
-        """Returns the first index of a record, from `start` on and before `stop`. NoElement."""
+        """Returns the first index of a record, from `start` on and before `stop`. NoElementError."""
         records = list(map(self._plain, self._all()))
         try:
             return records.index(self._plain(value), start, *(() if stop is None else (stop,)))
         except TypeError as error:
-            raise WrongKind(f"{self._elements.key!r}: {error}") from None
+            raise WrongKindError(f"{self._elements.key!r}: {error}") from None
         except ValueError:
-            raise NoElement(f"{self._elements.key!r} has no record {shown(value)}") from None
+            raise NoElementError(f"{self._elements.key!r} has no record {shown(value)}") from None
 
     def count(self, value: Any) -> int:
         """Returns how often it has the record."""
         return list(map(self._plain, self._all())).count(self._plain(value))
 
     def remove(self, value: Any) -> None:
-        """Removes the first record that is equal. NoElement."""
+        """Removes the first record that is equal. NoElementError."""
         del self[self.index(value)]
 
     def reverse(self) -> None:
@@ -315,7 +315,7 @@ class Records(MutableSequence[Any]):
                 return
             try:
                 records = self._read(place, min(many, left))
-            except OutOfRange:
+            except OutOfRangeError:
                 # another thread made it shorter
                 many = 1
                 continue
@@ -373,7 +373,7 @@ class Records(MutableSequence[Any]):
         try:
             records = numpy.asarray(self._elements).view(numpy.dtype(self._given))
         except TypeError:
-            raise WrongKind(f"{self._given!r} is no dtype of numpy") from None
+            raise WrongKindError(f"{self._given!r} is no dtype of numpy") from None
         if dtype is not None and records.dtype != dtype:
             return records.astype(dtype)
         return records.copy() if copy else records

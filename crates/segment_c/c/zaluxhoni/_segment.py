@@ -16,9 +16,10 @@ from typing import (TYPE_CHECKING, Any, Callable, Dict, ItemsView, Iterator, Key
                     NamedTuple, Optional, Tuple, ValuesView, overload)
 
 from . import _library
-from ._errors import (LONGEST_NAME, BadCount, BadGrowth, BadKey, BadName, BadValue, Error, FileForked, FileInStep,
-                      FileUnsynced, Lent, NotFound, NotUndone, TooLarge, WrongKind, WrongTask, WrongThread, error_of,
-                      file_error_of, named, no_space, region_error, shown, too_large)
+from ._errors import (LONGEST_NAME, BadCountError, BadGrowthError, BadKeyError, BadNameError, BadValueError, Error,
+                      FileForkedError, FileInStepError, FileUnsyncedError, LentError, NotFoundError, NotUndoneError,
+                      TooLargeError, WrongKindError, WrongTaskError, WrongThreadError, error_of, file_error_of, named,
+                      no_space, region_error, shown, too_large)
 from ._library import BOOL, I32, I64, MAP, NO_SPACE, STRING, STRINGS, U8, U64, VECTOR, quick, zx
 from ._objects import SAME, Array, Lease, Left, Map, Object, _Pairs, String, Strings, Vector, bytes_in, object_of
 from ._records import Records
@@ -125,8 +126,8 @@ class _Named(_Pairs, MutableMapping[str, Any]):
         """Makes an object and returns it: construct("i64", "a", 5), construct("i64[3]", "b", 7), construct("i64[3]",
         "c", [1, 2, 3]), construct("vec<i64>", "v", [1]), construct("string", "s", "text"), construct("vec<string>",
         "t", ["text"]) or construct("map<i32,i64>", "m", {1: 2}). The key is a name, unique(kind), or None for an object
-        without a key. It makes a map with all its pairs, or not at all. Exists, NoSpace, BadKey, BadName, BadKind,
-        BadValue, BadCount, WrongKind."""
+        without a key. It makes a map with all its pairs, or not at all. ExistsError, NoSpaceError, BadKeyError,
+        BadNameError, BadKindError, BadValueError, BadCountError, WrongKindError."""
         full, made = self._full(key), ctypes.c_uint64()
         code = self._make("construct", kind, full, value, made)
         return self._object(full if full is not None else handle(made.value), code)
@@ -150,8 +151,8 @@ class _Named(_Pairs, MutableMapping[str, Any]):
     def find_or_construct(self, kind: str, key: Key, value: Any = None) -> Any: ...
 
     def find_or_construct(self, kind: str, key: Key, value: Any = None) -> Any:
-        """Returns the object of the key, unchanged, or makes it as `construct` does. WrongKind, if an object of another
-        kind has the key."""
+        """Returns the object of the key, unchanged, or makes it as `construct` does. WrongKindError, if an object of
+        another kind has the key."""
         full = self._full(key)
         code = self._make("find_or_construct", kind, full, value, ctypes.c_uint64(), ctypes.c_uint32())
         return self._object(full, code)
@@ -169,7 +170,7 @@ class _Named(_Pairs, MutableMapping[str, Any]):
                 texts = Texts(() if value is None else value, self._texts)
                 segment._change(f"{call}_strings", key, texts.passed, texts.count, *told)
             elif code < MAP:
-                values = row(code - VECTOR, () if value is None else value, BadValue)
+                values = row(code - VECTOR, () if value is None else value, BadValueError)
                 segment._change(f"{call}_vector", key, values.passed, *told)
             else:
                 self._make_map(call, code, key, value, told)
@@ -200,11 +201,11 @@ class _Named(_Pairs, MutableMapping[str, Any]):
             many = listed(many)
         count = count if count is not None else 1 if many is None else len(many)
         if many is not None and len(many) != count:
-            raise BadCount(f"{len(many)} values for {count}")
+            raise BadCountError(f"{len(many)} values for {count}")
         if not 1 <= count <= 1048576:
-            raise BadCount(f"{count} values")
+            raise BadCountError(f"{count} values")
         if many is not None and self._is_new(call, code, key):
-            self._segment._change("construct_array", key, row(code, many, BadValue).passed, told[0])
+            self._segment._change("construct_array", key, row(code, many, BadValueError).passed, told[0])
             return
         first = value if many is None else listed(many)[0]
         number = 0 if first is None else _new_scalar(code, first)
@@ -215,21 +216,22 @@ class _Named(_Pairs, MutableMapping[str, Any]):
         return call == "construct" or not self._segment._has(code, key)
 
     def vector(self, key: Key, kind: str = "i64") -> Vector:
-        """Returns the vector of a name, and makes an empty one if there is none: vector("queue", "i64"). WrongKind,
-        NoSpace."""
+        """Returns the vector of a name, and makes an empty one if there is none: vector("queue", "i64").
+        WrongKindError, NoSpaceError."""
         return self._found_or_made(f"vec<{kind}>", key)  # type: ignore[no-any-return]
 
     def map(self, key: Key, keys: str = "i64", values: str = "i64") -> Map:
-        """Returns the map of a name, and makes an empty one if there is none: map("prices", "i32", "i64"). WrongKind,
-        NoSpace."""
+        """Returns the map of a name, and makes an empty one if there is none: map("prices", "i32", "i64").
+        WrongKindError, NoSpaceError."""
         return self._found_or_made(f"map<{keys},{values}>", key)  # type: ignore[no-any-return]
 
     def string(self, key: Key) -> String:
-        """Returns the string of a name, and makes an empty one if there is none. WrongKind, NoSpace."""
+        """Returns the string of a name, and makes an empty one if there is none. WrongKindError, NoSpaceError."""
         return self._found_or_made("string", key)  # type: ignore[no-any-return]
 
     def strings(self, key: Key) -> Strings:
-        """Returns the vector of strings of a name, and makes an empty one if there is none. WrongKind, NoSpace."""
+        """Returns the vector of strings of a name, and makes an empty one if there is none. WrongKindError,
+        NoSpaceError."""
         return self._found_or_made("vec<string>", key)  # type: ignore[no-any-return]
 
     def _found_or_made(self, kind: str, key: Key) -> Any:
@@ -255,20 +257,20 @@ class _Named(_Pairs, MutableMapping[str, Any]):
     def find(self, kind: str, key: Key) -> Any: ...
 
     def find(self, kind: str, key: Key) -> Any:
-        """Returns the object of a kind under a name or unique(kind), or None. WrongKind, if an object of another kind
-        has the key."""
+        """Returns the object of a kind under a name or unique(kind), or None. WrongKindError, if an object of another
+        kind has the key."""
         code, full = code_of(kind), self._full(key)
         return self._object(full, code) if self._segment._has(code, full) else None
 
     def object(self, key: Key) -> Any:
         """Returns the object of a name, of unique(kind) or of handle(number); one number as an Array, a text as a
-        String. NotFound."""
+        String. NotFoundError."""
         full = self._full(key)
         return self._object(full, code_of(self._segment._info(full).kind))
 
     def destroy(self, key: Key) -> bool:
         """Destroys the object of a name or of unique(kind), and returns whether it existed; or destroys that of
-        handle(number), and raises NotFound if there is none."""
+        handle(number), and raises NotFoundError if there is none."""
         was_there, full = ctypes.c_bool(), self._full(key)
         if self._segment._lent:
             self._segment._refuse_lent(full)
@@ -276,13 +278,13 @@ class _Named(_Pairs, MutableMapping[str, Any]):
         return was_there.value
 
     def info(self, key: Key) -> Info:
-        """Returns the Info of an object. NotFound."""
+        """Returns the Info of an object. NotFoundError."""
         return self._segment._info(self._full(key))
 
     def records(self, key: Key, form: Any) -> Records:
         """Returns the records that the bytes of a name hold, in a form; the bytes are a vector or an array of u8. If
         the name is new, makes an empty vector: records("points", "dd"), records("points", Point) of a
-        ctypes.Structure, of a dataclass or of a numpy dtype. WrongKind, NoSpace."""
+        ctypes.Structure, of a dataclass or of a numpy dtype. WrongKindError, NoSpaceError."""
         told = self._segment._told(self._full(key))
         if told is not None and told.kind == U8:
             return self._segment._classes[Records](self.object(key), form)  # type: ignore[no-any-return]
@@ -292,7 +294,7 @@ class _Named(_Pairs, MutableMapping[str, Any]):
         """Returns the names that begin with a text, as a mapping from the rest of each name: group("prices/"). Its
         texts are decoded as here, or by another encoding; with None they are bytes: group("images/", encoding=None)."""
         if not isinstance(prefix, str):
-            raise BadName(f"{shown(prefix)} is no front of names")
+            raise BadNameError(f"{shown(prefix)} is no front of names")
         own = self._own_encoding if encoding is SAME else known_encoding(encoding)
         return self._segment._classes[Group](self._segment, self._prefix + prefix, own)  # type: ignore[no-any-return]
 
@@ -311,7 +313,7 @@ class _Named(_Pairs, MutableMapping[str, Any]):
         full = self._full(key)
         told = self._segment._told(full)
         if told is None:
-            raise NotFound(f"no object is {shown(full)}")
+            raise NotFoundError(f"no object is {shown(full)}")
         if told.count == 1 and is_scalar(told.kind):
             return self._segment._number_of(raw_key(full), full)
         found = self._object(full, told.kind)
@@ -321,7 +323,7 @@ class _Named(_Pairs, MutableMapping[str, Any]):
         """Gives an object another value of its kind. If the name is new, makes an object: a bool of a bool, an i64 of a
         number (above its range a u64), a string of a text, a vector of a list, a map of a dict."""
         if key is None:
-            raise WrongKind("None is no name")
+            raise WrongKindError("None is no name")
         full, kind = self._full(key), _kind_of_number(value)
         raw = raw_key(full)
         told = self._segment._told_by(raw, full)
@@ -337,7 +339,7 @@ class _Named(_Pairs, MutableMapping[str, Any]):
     def __delitem__(self, key: Any) -> None:
         full = self._full(key)
         if self._segment._told(full) is None:
-            raise NotFound(f"no object is {shown(full)}")
+            raise NotFoundError(f"no object is {shown(full)}")
         self.destroy(key)
 
     def __contains__(self, key: Any) -> bool:
@@ -361,10 +363,10 @@ class _Named(_Pairs, MutableMapping[str, Any]):
 
     def pop(self, key: Any, default: Any = _missing) -> Any:
         """Destroys the object of a name and returns its value, as a number, str, list or dict. If there is none, it
-        returns `default`, or raises NotFound."""
+        returns `default`, or raises NotFoundError."""
         if key not in self:
             if default is _missing:
-                raise NotFound(f"no object is {shown(self._full(key))}")
+                raise NotFoundError(f"no object is {shown(self._full(key))}")
             return default
         value = self[key]
         value = value._value() if isinstance(value, Object) else value
@@ -372,10 +374,10 @@ class _Named(_Pairs, MutableMapping[str, Any]):
         return value
 
     def popitem(self) -> Tuple[str, Any]:
-        """Destroys the object of the first name, and returns the name and its value. NotFound."""
+        """Destroys the object of the first name, and returns the name and its value. NotFoundError."""
         for name in self:
             return name, self.pop(name)
-        raise NotFound("there are no names")
+        raise NotFoundError("there are no names")
 
     def clear(self) -> None:
         """Destroys the objects with these names."""
@@ -385,15 +387,15 @@ class _Named(_Pairs, MutableMapping[str, Any]):
     def update(self, *others: Any, **named: Any) -> None:
         """Assigns self[key] = value for each pair."""
         if len(others) > 1:
-            raise WrongKind(f"update takes one mapping, not {len(others)}")
+            raise WrongKindError(f"update takes one mapping, not {len(others)}")
         try:
             pairs = [*_pairs_in(*others), *named.items()]
         except Error:
             raise
         except TypeError as error:
-            raise WrongKind(str(error)) from None
+            raise WrongKindError(str(error)) from None
         except ValueError as error:
-            raise BadValue(str(error)) from None
+            raise BadValueError(str(error)) from None
         for key, value in pairs:
             self[key] = value
 
@@ -457,21 +459,21 @@ def _kind_of_number(value: Any) -> int:
 
 
 def known_encoding(encoding: Optional[str]) -> Optional[str]:
-    """Returns the name of an encoding. BadValue."""
+    """Returns the name of an encoding. BadValueError."""
     try:
         codecs.lookup(encoding or "utf-8")
     except (LookupError, TypeError):
-        raise BadValue(f"no encoding is {shown(encoding)}") from None
+        raise BadValueError(f"no encoding is {shown(encoding)}") from None
     return encoding
 
 
 def _new_scalar(code: int, value: Any) -> int:
     """Returns the number for a value of a new object."""
     try:
-        return scalar(code, value, BadValue)
-    except WrongKind as error:
+        return scalar(code, value, BadValueError)
+    except WrongKindError as error:
         if _is_number(value):
-            raise BadValue(str(error)) from None
+            raise BadValueError(str(error)) from None
         raise
 
 
@@ -488,7 +490,7 @@ def _kind_for(value: Any, key: Any) -> str:
             return "vec<string>"
         return f"vec<{_scalar_for(value, key)}>"
     if isinstance(value, collections.abc.Iterable):
-        raise WrongKind(f"{shown(key)}: {shown(value)} is no list")
+        raise WrongKindError(f"{shown(key)}: {shown(value)} is no list")
     return _scalar_for([value], key)
 
 
@@ -504,8 +506,8 @@ def _scalar_for(values: Any, key: Any) -> str:
         return "bool"
     try:
         return "u64" if any(MOST <= whole(value) < 2**64 for value in values) else "i64"
-    except WrongKind as error:
-        raise WrongKind(f"{shown(key)}: {error}") from None
+    except WrongKindError as error:
+        raise WrongKindError(f"{shown(key)}: {error}") from None
 
 
 class Segment(_Named, _library.Block):
@@ -578,14 +580,14 @@ class Segment(_Named, _library.Block):
             raise self._error(code)
 
     def _refuse_stranger(self, call: Any = None) -> None:
-        """Raises WrongThread or WrongTask, unless the thread and the task may make calls; FileForked, if the call would
-        change the segment of a file in a forked child, where nothing saves it."""
+        """Raises WrongThreadError or WrongTaskError, unless the thread and the task may make calls; FileForkedError, if
+        the call would change the segment of a file in a forked child, where nothing saves it."""
         if self._opener and _here.number != self._opener:
-            raise WrongThread()
+            raise WrongThreadError()
         if self._task is not None and self._task is not _task_here():
-            raise WrongTask()
+            raise WrongTaskError()
         if self._is_forked and id(call) in _CHANGES:
-            raise FileForked(None, self._path)
+            raise FileForkedError(None, self._path)
 
     @property
     def _is_forked(self) -> bool:
@@ -597,7 +599,7 @@ class Segment(_Named, _library.Block):
         if code == NO_SPACE:
             return no_space(about, bytes_in(arguments, count), self.free)
         if code == _CLOSED and self._file.held and self._process != os.getpid():
-            return FileForked(None, self._path)
+            return FileForkedError(None, self._path)
         return error_of(code, about)
 
     def _change(self, call: str, key: Any, *arguments: Any) -> None:
@@ -648,10 +650,10 @@ class Segment(_Named, _library.Block):
         return truth.value
 
     def _has(self, code: int, key: Any) -> bool:
-        """Tells whether an object of the kind has the key. WrongKind."""
+        """Tells whether an object of the kind has the key. WrongKindError."""
         found = self._code(zx.zx_find, raw_key(key), code, ctypes.c_uint64(), ctypes.c_uint32())
-        if found == WrongKind.code and isinstance(key, (str, bytes)):
-            raise WrongKind(f"{shown(key)} is a {self._info(key).kind}, and no {KINDS[code]}")
+        if found == WrongKindError.code and isinstance(key, (str, bytes)):
+            raise WrongKindError(f"{shown(key)} is a {self._info(key).kind}, and no {KINDS[code]}")
         if found and found != _ABSENT:
             raise self._error(found, key)
         return not found
@@ -667,7 +669,7 @@ class Segment(_Named, _library.Block):
         """Tells about an object, except its name; None also for a key that no object can have."""
         try:
             raw = raw_key(key)
-        except (BadKey, BadName):
+        except (BadKeyError, BadNameError):
             return None
         return self._told_by(raw, key)
 
@@ -718,14 +720,14 @@ class Segment(_Named, _library.Block):
         return bool(self._lent)
 
     def _refuse_lent(self, key: Any) -> None:
-        """Raises Lent if a view holds the object's memory."""
+        """Raises LentError if a view holds the object's memory."""
         told = self._told(key) if self._is_lent() else None
         if told is not None and any(told.handle == number for _, number in self._lent):
-            raise Lent(f"{shown(key)} is lent to a view that is still there")
+            raise LentError(f"{shown(key)} is lent to a view that is still there")
 
     def _refuse_any_lent(self) -> None:
         if self._is_lent():
-            raise Lent("an object of the segment is lent to a view that is still there")
+            raise LentError("an object of the segment is lent to a view that is still there")
 
     # -- the bytes
 
@@ -759,26 +761,27 @@ class Segment(_Named, _library.Block):
         return image.raw
 
     def grow(self, extra: int) -> None:
-        """Makes the segment longer by `extra` bytes: a multiple of 16, at least 32. BadGrowth, TooLarge, NoMemory,
-        ReadOnly, Lent."""
+        """Makes the segment longer by `extra` bytes: a multiple of 16, at least 32. BadGrowthError, TooLargeError,
+        NoMemoryError, ReadOnlyError, LentError."""
         self._refuse_any_lent()
         self._changes += 1
         added = natural(extra)
         try:
             self._file_call(zx.zx_file_grow, self._path, added)
-        except TooLarge:
+        except TooLargeError:
             raise too_large(self.size, added) from None
-        except BadGrowth:
-            raise BadGrowth(f"a segment grows by a multiple of 16, at least 32, and not by {added}") from None
+        except BadGrowthError:
+            raise BadGrowthError(f"a segment grows by a multiple of 16, at least 32, and not by {added}") from None
 
     def shrink(self) -> None:
-        """Cuts the free bytes off the end of the segment. ReadOnly, Lent."""
+        """Cuts the free bytes off the end of the segment. ReadOnlyError, LentError."""
         self._refuse_any_lent()
         self._changes += 1
         self._file_call(zx.zx_file_shrink, self._path)
 
     def relocate(self, capacity: int) -> None:
-        """Moves the segment into a region of `capacity` bytes. BadSize, ShortRegion, NoMemory, Lent."""
+        """Moves the segment into a region of `capacity` bytes. BadSizeError, ShortRegionError, NoMemoryError,
+        LentError."""
         self._refuse_any_lent()
         self._changes += 1
         wanted = natural(capacity)
@@ -791,9 +794,9 @@ class Segment(_Named, _library.Block):
         exception leaves the block, the segment is as before the block. The cost depends on what the block changed. A
         segment in memory, or opened by copy, is copied by its first transaction, by the next one after it moved to grow
         or the process forked, and always if it has less than 128 KiB. The end of the outermost block commits a file
-        opened with `durable`: if that raises anything but FileUnsure, the segment is as before the block. If a task of
-        asyncio makes the transaction, calls of other tasks raise WrongTask until the transaction ends. NoMemory, Closed;
-        the errors of `commit`."""
+        opened with `durable`: if that raises anything but FileUnsureError, the segment is as before the block. If a
+        task of asyncio makes the transaction, calls of other tasks raise WrongTaskError until the transaction ends.
+        NoMemoryError, ClosedError; the errors of `commit`."""
         if self._thread_number and _here.number != self._thread_number:
             self._refuse_stranger()
         return Transaction(self)
@@ -824,7 +827,7 @@ class Segment(_Named, _library.Block):
 
     def _refuse_torn(self) -> None:
         if self._torn:
-            raise NotUndone()
+            raise NotUndoneError()
 
     def _roll_back(self, before: _library.Step) -> None:
         """Restores the segment. Views keep their bytes, in memory of their own. If a signal handler interrupts it, a
@@ -850,15 +853,15 @@ class Segment(_Named, _library.Block):
 
     def save(self) -> None:
         """Saves the segment in its file, unless the file has these bytes already. A new file replaces the old one when
-        it is completely on the disk. So the name always leads to a whole file, the old or the new one. ReadOnly,
-        NoFile, FileError; of all errors, only FileUnsynced means that the segment is saved. FileInStep in a
-        transaction; NotUndone behind one that could not be undone."""
+        it is completely on the disk. So the name always leads to a whole file, the old or the new one. ReadOnlyError,
+        NoFileError, FileError; of all errors, only FileUnsyncedError means that the segment is saved. FileInStepError
+        in a transaction; NotUndoneError behind one that could not be undone."""
         self._save(zx.zx_file_save)
 
     def commit(self) -> None:
         """Commits the changes of a file opened with `durable`: then they are on the disk, and survive whatever ends the
         process. The cost depends on what was changed. For any other file it does what `flush` does. The errors of
-        `save`; FileUnsure if nobody knows whether the changes are on the disk."""
+        `save`; FileUnsureError if nobody knows whether the changes are on the disk."""
         self._save(zx.zx_file_commit)
 
     def flush(self) -> None:
@@ -873,21 +876,21 @@ class Segment(_Named, _library.Block):
         self._kept_changes = self._handle.changes
 
     def _refuse_save(self) -> None:
-        """Raises FileInStep in a transaction, since half a step is never saved, and NotUndone behind one."""
+        """Raises FileInStepError in a transaction, since half a step is never saved, and NotUndoneError behind one."""
         if self._thread_number and _here.number != self._thread_number:
             self._refuse_stranger()
         if self._steps:
-            raise FileInStep(None, self._path)
+            raise FileInStepError(None, self._path)
         self._refuse_torn()
 
     def save_as(self, path: Any) -> None:
-        """Saves the image to a new file. FileExists, FileError."""
+        """Saves the image to a new file. PathExistsError, FileError."""
         passed = path_bytes(path)
         self._file_call(zx.zx_file_save_as, os.fspath(path), passed, FILE_MODES["x"])
 
     def close(self) -> None:
-        """Saves the file, if it is open for writing, and closes the segment. After an error other than FileUnsynced it
-        is still open. The errors of `save`. A view keeps the bytes that it shows."""
+        """Saves the file, if it is open for writing, and closes the segment. After an error other than
+        FileUnsyncedError it is still open. The errors of `save`. A view keeps the bytes that it shows."""
         self._refuse_save()
         if not self._is_lent():
             self._changes += 1
@@ -900,7 +903,7 @@ class Segment(_Named, _library.Block):
         try:
             if self._file.held:
                 self.save()
-        except FileUnsynced:
+        except FileUnsyncedError:
             self.discard()
             raise
         self.discard()
@@ -976,7 +979,7 @@ class Segment(_Named, _library.Block):
                 self.close()
             else:
                 self.discard()
-        except NotUndone:
+        except NotUndoneError:
             self._was_refused = True
             self.discard()
             raise
@@ -1036,7 +1039,7 @@ class Segment(_Named, _library.Block):
             warnings.warn(text, ResourceWarning, source=self)
 
     def __reduce_ex__(self, _: Any) -> Any:
-        raise WrongKind("a segment is not copied: load(segment.image()) makes another one")
+        raise WrongKindError("a segment is not copied: load(segment.image()) makes another one")
 
     def __repr__(self) -> str:
         of = "" if self._path is None else f" of {self._path!r}"
@@ -1101,11 +1104,11 @@ class Segment(_Named, _library.Block):
     # -- the two indexes, and all of the segment
 
     def reserve_named(self, places: int) -> None:
-        """Makes the capacity of the index of names at least `places`. NoSpace."""
+        """Makes the capacity of the index of names at least `places`. NoSpaceError."""
         self._call(zx.zx_reserve_named, natural(places))
 
     def reserve_unique(self, places: int) -> None:
-        """Makes the capacity of the index of unique objects at least `places`. NoSpace."""
+        """Makes the capacity of the index of unique objects at least `places`. NoSpaceError."""
         self._call(zx.zx_reserve_unique, natural(places))
 
     def shrink_indexes(self) -> None:
@@ -1154,7 +1157,7 @@ class Group(_Named):
         return self._segment._first_from(behind) - self._segment._first_from(prefix)
 
     def __reduce_ex__(self, _: Any) -> Any:
-        raise WrongKind("a group is not copied: dict(group) has its names and objects")
+        raise WrongKindError("a group is not copied: dict(group) has its names and objects")
 
     def __repr__(self) -> str:
         return f"<Group {self._prefix!r} of {self._segment!r}>"
@@ -1183,7 +1186,7 @@ class Transaction(_library.Block):
         self._was_refused = False
 
     def __reduce_ex__(self, _: Any) -> Any:
-        raise WrongKind("a transaction is not copied: segment.transaction() makes another one")
+        raise WrongKindError("a transaction is not copied: segment.transaction() makes another one")
 
     def _begin(self) -> Segment:
         segment, before = self._segment, _library.Step()
@@ -1359,9 +1362,9 @@ def path_bytes(path: Any) -> bytes:
     try:
         path = os.fsencode(path)
     except TypeError:
-        raise WrongKind(f"{shown(path)} is no path") from None
+        raise WrongKindError(f"{shown(path)} is no path") from None
     if 0 in path:
-        raise BadName(f"the path {shown(path)} has a byte 0")
+        raise BadNameError(f"the path {shown(path)} has a byte 0")
     return bytes(path)
 
 

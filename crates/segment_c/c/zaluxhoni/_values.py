@@ -8,7 +8,8 @@ import struct
 from typing import Any, Dict, Iterable, List, Literal, NamedTuple, Optional, Tuple, Type, Union
 
 from . import _library
-from ._errors import BadKey, BadKind, BadName, BadValue, Error, OutOfRange, WrongKind, shown
+from ._errors import (BadKeyError, BadKindError, BadNameError, BadValueError, Error, OutOfRangeError, WrongKindError,
+                      shown)
 from ._library import BOOL, I32, I64, MAP, STRING, STRINGS, U8, U64, VECTOR
 
 MOST = 2**63
@@ -51,7 +52,7 @@ def code_of(kind: str) -> int:
     """Returns the code of a kind as docs/LANGUAGE.md spells it, such as "map<i32,i64>"."""
     code = _codes.get(kind.replace(" ", "")) if isinstance(kind, str) else None
     if code is None:
-        raise BadKind(f"no kind is {shown(kind)}{_way_for_kind(kind)}")
+        raise BadKindError(f"no kind is {shown(kind)}{_way_for_kind(kind)}")
     return code
 
 
@@ -69,7 +70,7 @@ def counted(kind: str) -> Tuple[int, Optional[int]]:
         return code_of(kind), None
     code = code_of(array[1])
     if not is_scalar(code):
-        raise BadKind(f"{array[1]} has no arrays")
+        raise BadKindError(f"{array[1]} has no arrays")
     return code, int(array[2])
 
 
@@ -86,11 +87,11 @@ MapKind = Literal[
 # ---- one value
 
 def whole(number: Any) -> int:
-    """Returns an integer, also of another package's type, as an int; raises WrongKind for any other value."""
+    """Returns an integer, also of another package's type, as an int; raises WrongKindError for any other value."""
     try:
         return operator.index(number)
     except TypeError:
-        raise WrongKind(f"{shown(number)} is no whole number{_way_for(number)}") from None
+        raise WrongKindError(f"{shown(number)} is no whole number{_way_for(number)}") from None
 
 
 def _way_for(value: Any) -> str:
@@ -103,10 +104,11 @@ def _way_for(value: Any) -> str:
 
 
 def natural(number: Any) -> int:
-    """Returns an integer as an int; raises OutOfRange unless it is from 0 to 2**64 - 1, and WrongKind as whole()."""
+    """Returns an integer as an int; raises OutOfRangeError unless it is from 0 to 2**64 - 1, and WrongKindError as
+    whole()."""
     number = whole(number)
     if not 0 <= number < 2**64:
-        raise OutOfRange(f"{shown(number)} is outside 0 to 2**64 - 1")
+        raise OutOfRangeError(f"{shown(number)} is outside 0 to 2**64 - 1")
     return int(number)
 
 
@@ -114,10 +116,10 @@ def is_truth(value: Any) -> bool:
     return isinstance(value, bool) or type(value).__name__ in ("bool_", "bool8") and hasattr(value, "dtype")
 
 
-def scalar(code: int, value: Any, refused: Type[Error] = OutOfRange) -> int:
-    """Returns the value as a number. Raises WrongKind for a wrong type, and `refused` outside the kind's range."""
+def scalar(code: int, value: Any, refused: Type[Error] = OutOfRangeError) -> int:
+    """Returns the value as a number. Raises WrongKindError for a wrong type, and `refused` outside the kind's range."""
     if (code == BOOL) != is_truth(value):
-        raise WrongKind(f"{shown(value)} is no {KINDS[code]}{_way_for(value)}")
+        raise WrongKindError(f"{shown(value)} is no {KINDS[code]}{_way_for(value)}")
     number = int(value) if code == BOOL else whole(value)
     if not SCALARS[code].least <= number <= SCALARS[code].most:
         raise refused(f"{shown(value)} is no {KINDS[code]}")
@@ -164,7 +166,7 @@ def listed(values: Any) -> List[Any]:
     try:
         return list(values)
     except TypeError:
-        raise WrongKind(f"{shown(values)} is no list") from None
+        raise WrongKindError(f"{shown(values)} is no list") from None
 
 
 def _buffer_of(code: int, values: Any) -> Optional[memoryview]:
@@ -186,8 +188,8 @@ def _memory_of(view: memoryview) -> Any:
     return whole_of.from_buffer_copy(view) if view.readonly else whole_of.from_buffer(view)
 
 
-def row(code: int, values: Any, refused: Type[Error] = OutOfRange) -> Row:
-    """Returns the values as a Row. Raises WrongKind for a wrong type, and `refused` outside the kind's range."""
+def row(code: int, values: Any, refused: Type[Error] = OutOfRangeError) -> Row:
+    """Returns the values as a Row. Raises WrongKindError for a wrong type, and `refused` outside the kind's range."""
     own = SCALARS[code]
     view = _buffer_of(code, values)
     if view is not None and code != BOOL:
@@ -229,7 +231,7 @@ def unpacked(code: int, memory: Any, count: int) -> List[int]:
     return memoryview(memory).cast("B")[:count * own.size].cast(own.letter).tolist()
 
 
-def words(code: int, values: Iterable[Any], refused: Type[Error] = OutOfRange) -> Any:
+def words(code: int, values: Iterable[Any], refused: Type[Error] = OutOfRangeError) -> Any:
     """Returns memory with the values in 64 bits each, as zx_put_pairs takes map keys and values."""
     numbers, own = values if isinstance(values, list) else list(values), SCALARS[code]
     is_plain = set(map(type, numbers)) <= {bool if code == BOOL else int}
@@ -246,11 +248,12 @@ def from_words(code: int, memory: Any, count: int) -> List[int]:
 
 
 def pairs_of(code: int, value: Any) -> Tuple[Any, Any, int]:
-    """Returns the keys, values and number of the pairs; raises WrongKind or OutOfRange for a pair of another kind."""
+    """Returns the keys, values and number of the pairs; raises WrongKindError or OutOfRangeError for a pair of another
+    kind."""
     try:
         pairs = dict(value)
     except (TypeError, ValueError):
-        raise WrongKind(f"{shown(value)} has no pairs") from None
+        raise WrongKindError(f"{shown(value)} has no pairs") from None
     return words(code >> 8 & 255, pairs.keys()), words(code & 255, pairs.values()), len(pairs)
 
 
@@ -262,10 +265,10 @@ def encoded(text: Any, encoding: Optional[str]) -> bytes:
         try:
             return text.encode(encoding or "utf-8", "surrogateescape")
         except UnicodeEncodeError:
-            raise BadValue(f"{shown(text)} cannot be encoded") from None
+            raise BadValueError(f"{shown(text)} cannot be encoded") from None
     if isinstance(text, (bytes, bytearray, memoryview)) or hasattr(text, "_text"):
         return bytes(text)
-    raise WrongKind(f"{shown(text)} is no text")
+    raise WrongKindError(f"{shown(text)} is no text")
 
 
 def decoded(text: bytes, encoding: Optional[str]) -> Any:
@@ -275,7 +278,7 @@ def decoded(text: bytes, encoding: Optional[str]) -> Any:
     try:
         return text.decode(encoding, "surrogateescape")
     except UnicodeDecodeError:
-        raise BadValue(f"{shown(text)} is no {encoding}") from None
+        raise BadValueError(f"{shown(text)} is no {encoding}") from None
 
 
 class Texts:
@@ -283,7 +286,7 @@ class Texts:
 
     def __init__(self, texts: Any, encoding: Optional[str]) -> None:
         if isinstance(texts, TEXTS):
-            raise WrongKind(f"{shown(texts)} is one text, and no list of them")
+            raise WrongKindError(f"{shown(texts)} is one text, and no list of them")
         kept = [encoded(text, encoding) for text in listed(texts)]
         joined, at = b"".join(kept), 0
         self._memory = ctypes.create_string_buffer(joined, max(1, len(joined)))
@@ -330,7 +333,7 @@ Key = Union[str, bytes, ObjectKey]
 
 
 def unique(kind: str) -> ObjectKey:
-    """Returns the key of the unique object of a kind: unique("u64"). BadKind."""
+    """Returns the key of the unique object of a kind: unique("u64"). BadKindError."""
     return ObjectKey(_library.Key(_BY_KIND, code_of(kind), 0, b"", 0), f"unique({kind!r})")
 
 
@@ -345,7 +348,7 @@ def raw_key(key: Any) -> _library.Key:
         try:
             name = key.encode()
         except UnicodeEncodeError:
-            raise BadName(f"{shown(key)} has no UTF-8") from None
+            raise BadNameError(f"{shown(key)} has no UTF-8") from None
         return _library.Key(0, 0, 0, name, len(name))
     if isinstance(key, bytes):
         return _library.Key(0, 0, 0, key, len(key))
@@ -353,4 +356,4 @@ def raw_key(key: Any) -> _library.Key:
         return key._key
     if key is None:
         return _library.Key(3, 0, 0, b"", 0)
-    raise BadKey(f"{shown(key)} is no name, and no key of unique() or handle()")
+    raise BadKeyError(f"{shown(key)} is no name, and no key of unique() or handle()")

@@ -416,6 +416,7 @@ template <class T> using value_of = std::conditional_t<std::is_arithmetic_v<T>, 
 
 namespace detail {
 
+class viewed_bytes;
 template <class T, class R, class = void> inline constexpr bool is_row = false;
 /// The base of what reads elements of a segment. A call copies them: it may move what `data()` refers to.
 struct in_segment {};
@@ -464,6 +465,8 @@ template <class T> class slice {
     const T *end() const noexcept { return at_ + count_; }
 
   private:
+    friend class detail::viewed_bytes;
+
     template <class R> void copy(const R &range) {
         count_ = static_cast<std::size_t>(std::distance(std::begin(range), std::end(range)));
         copy_ = std::make_unique<T[]>(count_);
@@ -639,11 +642,43 @@ template <class Object> class found_object;
 
 namespace detail {
 
+/// The bytes of a segment to which the program has pointers, since it asked for a view or an address. A call that takes
+/// such bytes gets a copy of them: it may move the object, or the whole segment, before it reads them.
+class viewed_bytes {
+  public:
+    void add(const void *at, std::size_t len) noexcept {
+        if (len == 0) return;
+        begin_ = std::min(begin_, address(at));
+        end_ = std::max(end_, address(at) + len);
+    }
+    void clear() noexcept { *this = viewed_bytes(); }
+
+    [[nodiscard]] bool has(std::string_view text) const noexcept { return meets(text.data(), text.size()); }
+    [[nodiscard]] bool has(const texts &list) const noexcept {
+        return std::any_of(list.data(), list.data() + list.size(),
+                           [&](const zx_text &each) { return meets(each.at, each.len); });
+    }
+    /// Copies elements that are among these bytes.
+    template <class T> void detach(slice<T> &values) const {
+        if (values.copy_ != nullptr || !meets(values.at_, values.count_ * sizeof(T))) return;
+        values.copy(slice<T>(values.at_, values.count_));
+    }
+
+  private:
+    static std::uintptr_t address(const void *at) noexcept { return reinterpret_cast<std::uintptr_t>(at); }
+    bool meets(const void *at, std::size_t len) const noexcept {
+        return address(at) < end_ && address(at) + len > begin_;
+    }
+
+    std::uintptr_t begin_ = std::numeric_limits<std::uintptr_t>::max(), end_ = 0;
+};
+
 /// The state of a segment, at an address that never changes.
 struct state {
     zx_file file{};
     std::string path;
     bool grows = false;
+    viewed_bytes viewed;
 
     zx_segment *raw() noexcept { return &file.segment; }
     /// Throws unless the code is ZX_DONE; a `file_error` for a code of files.
@@ -684,7 +719,11 @@ struct state {
         const zx_code code = zx_size(raw(), &size);
         if (code != ZX_DONE) return code;
         const std::uint64_t left = largest - size, wanted = (size / 2 + 4096) / 16 * 16;
-        return zx_file_grow(&file, left < wanted && left >= 32 ? left : wanted);
+        return grow(left < wanted && left >= 32 ? left : wanted);
+    }
+    zx_code grow(std::uint64_t extra) {
+        viewed.clear();
+        return zx_file_grow(&file, extra);
     }
 
   private:
@@ -981,6 +1020,7 @@ struct lines {
         });
     }
     static void set(const spot &of, std::uint64_t index, std::string_view text) {
+        if (of.of->viewed.has(text)) return set(of, index, std::string(text));
         of.change(zx_set_text, index, bytes_of(text), text.size());
     }
 };
@@ -1465,11 +1505,14 @@ class segment {
     }
 
     /// Makes the segment longer by `extra` bytes: a multiple of 16, at least 32.
-    void grow(std::uint64_t extra) { state().check(zx_file_grow(&state().file, extra)); }
+    void grow(std::uint64_t extra) { state().check(state().grow(extra)); }
     /// Cuts the free bytes off the end of the segment.
     void shrink() { state().check(zx_file_shrink(&state().file)); }
     /// Moves the segment into a region of `capacity` bytes.
-    void relocate(std::uint64_t capacity) { check_code(zx_relocate(raw(), capacity)); }
+    void relocate(std::uint64_t capacity) {
+        state().viewed.clear();
+        check_code(zx_relocate(raw(), capacity));
+    }
 
     /// Lets the segment grow by itself: a call that finds no space makes it longer by half, and continues. If it cannot
     /// become long enough, the call throws `too_large` or `no_memory`, and the length is unchanged.
@@ -1526,17 +1569,21 @@ class segment {
     }
     /// Makes an array of 1 to 1048576 values; for a type that is no scalar, of at most that many bytes.
     template <class T> std::uint64_t construct_array(const key &at, slice<T> values) {
+        state().viewed.detach(values);
         const zx_values passed = stored<T>::values(values.data(), values.size());
         return made(zx_construct_array, at, &passed);
     }
     template <class T> std::uint64_t construct_vector(const key &at, slice<T> values = {}) {
+        state().viewed.detach(values);
         const zx_values passed = stored<T>::values(values.data(), values.size());
         return made(zx_construct_vector, at, &passed);
     }
     std::uint64_t construct_string(const key &at, std::string_view text) {
+        if (state().viewed.has(text)) return construct_string(at, std::string(text));
         return made(zx_construct_string, at, bytes_of(text), text.size());
     }
     std::uint64_t construct_strings(const key &at, const texts &list = {}) {
+        if (state().viewed.has(list)) return construct_strings(at, list.copies());
         return made(zx_construct_strings, at, list.data(), list.size());
     }
     template <class K, class V> std::uint64_t construct_map(const key &at) {
@@ -1627,6 +1674,7 @@ class segment {
         check_code(stored<T>::read(raw(), &raw_key, first, row, count));
     }
     template <class T> void write(const key &at, std::uint64_t first, slice<T> values) {
+        state().viewed.detach(values);
         const zx_key raw_key = at.raw();
         const zx_values passed = stored<T>::values(values.data(), values.size());
         check_code(zx_write_elements(raw(), &raw_key, detail::product(first, stored<T>::width), &passed));
@@ -1835,6 +1883,7 @@ class object {
 
     detail::spot spot() const noexcept { return {of_.get(), handle_}; }
     const std::shared_ptr<detail::state> &state() const noexcept { return of_; }
+    const detail::viewed_bytes &viewed() const noexcept { return of_->viewed; }
     measures measured() const {
         measures told{0, 0};
         spot().ask(zx_measure, &told.len, &told.places);
@@ -2002,6 +2051,7 @@ zx_elements elements_by(zx_code (*call)(zx_segment *, const zx_key *, zx_element
     of.ask(call, &there);
     if (there.kind != stored<T>::kind) throw wrong_kind();
     there.count = whole<T>(there.count);
+    of.of->viewed.add(there.at, there.count * sizeof(T));
     return there;
 }
 
@@ -2031,7 +2081,8 @@ template <class Of, class T> class const_values : public const_row<Of, values<T>
     [[nodiscard]] const T *data() const { return view().data(); }
 };
 
-template <class T> void write_row(const spot &of, std::uint64_t first, const slice<T> &values) {
+template <class T> void write_row(const spot &of, std::uint64_t first, slice<T> &values) {
+    of.of->viewed.detach(values);
     const zx_values passed = stored<T>::values(values.data(), values.size());
     of.ask(zx_write_elements, product(first, stored<T>::width), &passed);
 }
@@ -2159,6 +2210,7 @@ template <class T> class vector : public detail::row<const_vector<T>, detail::va
     }
     /// Appends values by one call: all of them or none.
     void append_range(slice<T> values) const {
+        this->viewed().detach(values);
         const zx_values passed = stored<T>::values(values.data(), values.size());
         this->spot().lengthen(values.size() * stored<T>::width, zx_extend, &passed);
     }
@@ -2184,6 +2236,7 @@ template <class T> class vector : public detail::row<const_vector<T>, detail::va
         return this->at_index(first.index());
     }
     void assign(slice<T> values) const {
+        this->viewed().detach(values);
         const zx_values passed = stored<T>::values(values.data(), values.size());
         this->spot().change(zx_assign, &passed);
     }
@@ -2270,8 +2323,14 @@ class string : public detail::row<const_string, detail::values<std::uint8_t>> {
   public:
     using row::row;
 
-    void assign(std::string_view text) const { spot().change(zx_assign_string, bytes_of(text), text.size()); }
-    void append(std::string_view text) const { spot().lengthen(text.size(), zx_append, bytes_of(text), text.size()); }
+    void assign(std::string_view text) const {
+        if (viewed().has(text)) return assign(std::string(text));
+        spot().change(zx_assign_string, bytes_of(text), text.size());
+    }
+    void append(std::string_view text) const {
+        if (viewed().has(text)) return append(std::string(text));
+        spot().lengthen(text.size(), zx_append, bytes_of(text), text.size());
+    }
     const string &operator+=(std::string_view text) const {
         append(text);
         return *this;
@@ -2299,7 +2358,10 @@ class strings : public detail::row<const_strings, detail::lines> {
     using row::row;
     using row::iterator, row::const_iterator, row::reference;
 
-    void push_back(std::string_view text) const { spot().change(zx_push_text, bytes_of(text), text.size()); }
+    void push_back(std::string_view text) const {
+        if (viewed().has(text)) return push_back(std::string_view(std::string(text)));
+        spot().change(zx_push_text, bytes_of(text), text.size());
+    }
     void push_back(const reference &element) const { push_back(std::string_view(element.value())); }
     /// Removes the last string, and returns it. Throws `out_of_range` for an empty vector.
     std::string pop_back() const {
@@ -2309,6 +2371,7 @@ class strings : public detail::row<const_strings, detail::lines> {
     }
     /// Inserts a string, or several, before `index`, which may be the size.
     void insert(std::uint64_t index, std::string_view text) const {
+        if (viewed().has(text)) return insert(index, std::string_view(std::string(text)));
         spot().change(zx_insert_text, index, bytes_of(text), text.size());
     }
     void insert(std::uint64_t index, const reference &element) const {
@@ -2348,7 +2411,10 @@ class strings : public detail::row<const_strings, detail::lines> {
         erase(first.index(), last.index());
         return at_index(first.index());
     }
-    void assign(const texts &list) const { spot().change(zx_assign_texts, list.data(), list.size()); }
+    void assign(const texts &list) const {
+        if (viewed().has(list)) return assign(list.copies());
+        spot().change(zx_assign_texts, list.data(), list.size());
+    }
     void reserve(std::uint64_t places) const { spot().change(zx_reserve, places); }
     void shrink_to_fit() const { spot().ask(zx_trim); }
     void clear() const { spot().ask(zx_clear); }
@@ -2709,15 +2775,18 @@ found_values<T> segment::find_or_construct(const key &at, value_of<T> value, std
 }
 template <class T>
 found_object<vector<T>> segment::find_or_construct_vector(const key &at, slice<T> values) {
+    state().viewed.detach(values);
     const zx_values passed = stored<T>::values(values.data(), values.size());
     const found had = found_or_made(zx_find_or_construct_vector, at, &passed);
     return {had, zaluxhoni::vector<T>(state_, had.handle)};
 }
 inline found_object<string> segment::find_or_construct_string(const key &at, std::string_view text) {
+    if (state().viewed.has(text)) return find_or_construct_string(at, std::string(text));
     const found had = found_or_made(zx_find_or_construct_string, at, bytes_of(text), text.size());
     return {had, zaluxhoni::string(state_, had.handle)};
 }
 inline found_object<strings> segment::find_or_construct_strings(const key &at, const texts &list) {
+    if (state().viewed.has(list)) return find_or_construct_strings(at, list.copies());
     const found had = found_or_made(zx_find_or_construct_strings, at, list.data(), list.size());
     return {had, zaluxhoni::strings(state_, had.handle)};
 }

@@ -564,6 +564,76 @@ void views_without_a_copy() {
 #endif
 }
 
+/// A call copies what a view of its own segment gave: it may move the object, or make the segment longer, before it
+/// reads it.
+void views_that_are_passed() {
+    for (const bool grows : {false, true}) {
+        segment s = segment::create(grows ? 4096 : 1 << 20);
+        s.set_growing(grows);
+        const auto text = s.string("text");
+        text.assign("EURUSD-2026-DEC-CALL-01234567890");
+        std::string same = text;
+        for (int n = 0; n < 9; n++) {
+            text.append(text.view());
+            s.construct_string(key::anonymous(), "beside it");
+            same += same;
+        }
+        IS(text == same);
+        s.string("other").assign(text.view());
+        IS(s.string("other") == same);
+        text.assign(text.view().substr(7, 9000));
+        IS(text == same.substr(7, 9000));
+        text.assign(same);
+        const auto list = s.strings("list");
+        for (int n = 0; n < 20; n++) list.push_back(text.view().substr(0, 300));
+        list.insert(0, text.view().substr(1, 2000));
+        list[1] = text.view().substr(2, 3000);
+        IS(list[0] == same.substr(1, 2000) && list[1] == same.substr(2, 3000) && list[20] == same.substr(0, 300));
+        list.append_range({text.view().substr(3, 400), "a"});
+        IS(list[21] == same.substr(3, 400) && list.size() == 23);
+        list.assign({text.view().substr(0, 5000), text.view().substr(4, 5000)});
+        IS(list == (std::vector<std::string>{same.substr(0, 5000), same.substr(4, 5000)}));
+        s.construct_string("made", text.view());
+        s.construct_strings("all made", {text.view(), "b", text.view()});
+        IS(s.string("made") == same && s.strings("all made")[2] == same);
+        IS(*s.find_or_construct_string("found", text.view()) == same);
+        IS((*s.find_or_construct_strings("all found", {text.view()}))[0] == same);
+
+        const auto v = s.vector<i64>("v");
+        v.assign({1, 2, 3, 4});
+        std::vector<i64> numbers = v.to_vector();
+        for (int n = 0; n < 8; n++) {
+            v.append_range(v.cview());
+            s.construct<i64>(key::anonymous(), n);
+            numbers.insert(numbers.end(), numbers.begin(), numbers.end());
+        }
+        v.append_range({v.data(), 2});
+        numbers.insert(numbers.end(), {1, 2});
+        IS(v == numbers);
+        v.insert_range(1, v.view());
+        IS(v.size() == 2052 && v[1] == 1 && v[1026] == 2 && v[1027] == 2);
+        v.assign(numbers);
+        s.vector<i64>("w").assign(v.view());
+        s.construct_vector<i64>("x", v.view());
+        s.construct_array<i64>("y", {v.data(), v.size()});
+        IS(s.vector<i64>("w") == numbers && s.vector<i64>("x") == numbers && s.array<i64>("y") == numbers);
+        IS(*s.find_or_construct_vector<i64>("z", v.view()) == numbers);
+        v.write(1, {v.data(), 5});
+        s.array<i64>("y").write(2, {s.array<i64>("y").data(), 5});
+        s.write<i64>("z", 3, {s.vector<i64>("z").data(), 5});
+        IS(v[1] == 1 && v[5] == 1 && s.array<i64>("y")[2] == 1 && s.vector<i64>("z")[7] == 1);
+
+        const auto items = s.vector<item>("items");
+        items.push_back({1.5, 2, 3, 4});
+        for (int n = 0; n < 7; n++) {
+            items.append_range(items.view());
+            items.push_back(items.view()[0]);
+            items.insert(0, items.view()[items.size() - 1]);
+        }
+        IS(items.size() == 382 && items == std::vector<item>(382, {1.5, 2, 3, 4}) && s.sanity());
+    }
+}
+
 /// Iterators read and write elements where they are, until a call changes the segment; then they find the object anew.
 void iterators_in_place() {
     segment s = segment::create(65536);
@@ -1131,7 +1201,7 @@ void the_longest_segment() {
 void every_case() {
     void (*const cases[])() = {an_array_that_is_made_anew, numbers_that_do_not_fit, truths, texts_that_are_stored,
                                elements, texts, FORMATS algorithms, bulk, own_types, views_without_a_copy,
-                               iterators_in_place, iterators_and_modes, several_calls_as_one, const_segments, groups,
+                               views_that_are_passed, iterators_in_place, iterators_and_modes, several_calls_as_one, const_segments, groups,
                                segments_that_grow, errors, sizes_that_do_not_fit, swapped, projected,
                                members_as_in_std, maps_both_ways, members_that_are_written, objects_found_or_made,
                                storage_that_cannot_double, an_open_that_waits};

@@ -1097,7 +1097,7 @@ template <class T> T quotient(T a, T b) {
     }
 }
 
-/// Holds a value that is read through `->`.
+/// Holds the value that `->` of an element reads. A member of it cannot be written.
 template <class T> class arrow {
   public:
     explicit arrow(T value) : value_(std::move(value)) {}
@@ -1106,43 +1106,6 @@ template <class T> class arrow {
   private:
     T value_;
 };
-
-/// Whether values have members that `->` reads and writes.
-template <class T> inline constexpr bool has_members = std::is_class_v<T> && std::is_trivially_copyable_v<T>;
-
-/// Holds the value of an element for `->`. If a member was changed, the destructor writes the value, at the end of the
-/// expression.
-template <class Access> class arrow_back {
-  public:
-    using value_type = typename Access::value_type;
-
-    arrow_back(const typename Access::target &of, typename Access::index_type at)
-        : of_(of), at_(at), value_(Access::get(of, at)) {
-        std::memcpy(before_, &value_, sizeof before_);
-    }
-    arrow_back(const arrow_back &) = delete;
-    arrow_back &operator=(const arrow_back &) = delete;
-    ~arrow_back() noexcept(false) {
-        if (std::memcmp(before_, &value_, sizeof before_) == 0) return;
-        try {
-            Access::set(of_, at_, value_);
-        } catch (const error &) {
-            // unless another error is on its way
-            if (std::uncaught_exceptions() == exceptions_) throw;
-        }
-    }
-    value_type *operator->() noexcept { return &value_; }
-
-  private:
-    typename Access::target of_;
-    typename Access::index_type at_;
-    int exceptions_ = std::uncaught_exceptions();
-    value_type value_;
-    unsigned char before_[sizeof(value_type)];
-};
-template <class Access>
-using arrow_of = std::conditional_t<has_members<typename Access::value_type>, arrow_back<Access>,
-                                    arrow<typename Access::value_type>>;
 
 /// What `*` of an element reads into, so that `&item::weight` is a projection of elements: `std::invoke` takes the
 /// member of what `*` gives. A scalar has no members.
@@ -1176,10 +1139,14 @@ template <class Access> class element : private value_kept<typename Access::valu
     template <class T = value_type, std::enable_if_t<std::is_class_v<T>, int> = 0> const T &operator*() const {
         return this->keep(value());
     }
-    /// Reads and writes a member of an element that has some: `records[0]->price = 2.5`.
-    arrow_of<Access> operator->() const {
-        if constexpr (has_members<value_type>) return arrow_back<Access>(of_, at_);
-        else return arrow<value_type>(value());
+    /// Reads a member: `records[0]->price`. `modify`, or a view, writes one.
+    arrow<value_type> operator->() const { return arrow<value_type>(value()); }
+    /// Calls `change` with a copy of the value, and then writes the copy:
+    /// `records[0].modify([](record &of) { of.price = 2.5, of.sold++; })`. If `change` throws, writes nothing.
+    template <class Change> void modify(Change change) const {
+        value_type changed = value();
+        change(changed);
+        to(changed);
     }
 
     const element &operator=(typename Access::passed_type value) const {
@@ -1243,6 +1210,12 @@ template <> class element<lines> : public read_as_text {
     [[nodiscard]] std::string str() const { return value(); }
     operator std::string() const { return value(); }
     arrow<std::string> operator->() const { return arrow<std::string>(value()); }
+    /// Calls `change` with a copy of the text, and then writes the copy. If `change` throws, writes nothing.
+    template <class Change> void modify(Change change) const {
+        std::string changed = value();
+        change(changed);
+        *this = std::string_view(changed);
+    }
 
     const element &operator=(std::string_view text) const {
         lines::set(of_, at_, text);
@@ -1288,9 +1261,7 @@ template <class Access, class R> class iterator {
     using value_type = typename Access::value_type;
     using difference_type = std::ptrdiff_t;
     using reference = R;
-    /// Whether `->` writes, too.
-    static constexpr bool is_arrow_back = has_members<value_type> && !std::is_same_v<R, value_type>;
-    using pointer = std::conditional_t<is_arrow_back, arrow_of<Access>, arrow<value_type>>;
+    using pointer = arrow<value_type>;
 
     iterator() = default;
     iterator(const typename Access::target &of, std::uint64_t index) : of_(of), index_(index) {}
@@ -1299,10 +1270,7 @@ template <class Access, class R> class iterator {
     iterator(const iterator<Access, Other> &other) : of_(other.of_), index_(other.index_) {}
 
     R operator*() const { return (*this)[0]; }
-    pointer operator->() const {
-        if constexpr (is_arrow_back) return pointer(of_, index_);
-        else return pointer(Access::get(of_, index_));
-    }
+    pointer operator->() const { return pointer(Access::get(of_, index_)); }
     R operator[](difference_type by) const {
         if constexpr (std::is_same_v<R, value_type>) return Access::get(of_, moved(by));
         else return R(of_, moved(by));
@@ -2018,6 +1986,9 @@ template <class Reader, class Access> class row : public Reader {
     using Reader::Reader;
 
     void set(std::uint64_t index, typename Access::passed_type value) const { Access::set(this->here(), index, value); }
+    /// Calls `change` with a copy of the element, and then writes the copy: `v.modify(0, [](item &of) { of.stock++; })`.
+    /// If `change` throws, writes nothing.
+    template <class Change> void modify(std::uint64_t index, Change change) const { (*this)[index].modify(change); }
     [[nodiscard]] reference operator[](std::uint64_t index) const { return {this->here(), index}; }
     [[nodiscard]] reference front() const { return (*this)[0]; }
     [[nodiscard]] reference back() const { return (*this)[this->size() - 1]; }
@@ -2741,8 +2712,8 @@ template <class T> class found_values : public found {
     [[nodiscard]] const array<T> &object() const noexcept { return values_; }
     [[nodiscard]] typename array<T>::reference operator[](std::uint64_t index) const { return values_[index]; }
     [[nodiscard]] typename array<T>::reference operator*() const { return values_[0]; }
-    /// Reads and writes a member of the first value.
-    [[nodiscard]] auto operator->() const { return values_[0].operator->(); }
+    /// Reads a member of the first value; `(*found).modify(change)` writes.
+    [[nodiscard]] detail::arrow<T> operator->() const { return values_[0].operator->(); }
 
   private:
     array<T> values_;

@@ -1066,45 +1066,53 @@ void maps_both_ways() {
 #endif
 }
 
-/// `->` writes a member of an element.
+/// `->` reads a member of an element; `modify`, and a view, write members.
 void members_that_are_written() {
     segment s = segment::create(65536);
     const auto items = s.vector<item>("items");
     items.assign({{0.5, 1, 2, 3}, {1.5, 4, 5, 6}});
-    items[0]->price = 2.5;
-    items[1]->stock += 10;
-    items.begin()->shelf = 7;
-    IS(items[0].value() == (item{2.5, 1, 2, 7}) && items[1].value() == (item{1.5, 4, 15, 6}));
-    auto last = items.end();
-    (--last)->article++;
-    (items.begin() + 1)->price *= 2;
-    items.back()->shelf = items.front()->shelf;
-    IS(items[1].value() == (item{3, 5, 15, 7}));
+    items.modify(0, [](item &of) { of.price = 2.5, of.shelf = 7; });
+    items[1].modify([](item &of) { of.stock += 10, of.article++; });
+    (*items.begin()).modify([](item &of) { of.article = of.stock = 9; });
+    IS(items[0].value() == (item{2.5, 9, 9, 7}) && items[1].value() == (item{1.5, 5, 15, 6}));
+    items.back().modify([&](item &of) { std::swap(of.stock, of.shelf), of.price = items[0]->price; });
+    IS(items[1].value() == (item{2.5, 5, 6, 15}) && (items.end() - 1)->shelf == 15 && items.begin()->stock == 9);
+    item &first = items.view()[0];
+    first.stock++, first.shelf++;
+    IS(items[0].value() == (item{2.5, 9, 10, 8}));
     const auto two = s.array<item>(zaluxhoni::key::by_handle(s.construct<item>("two", {9, 8, 7, 6}, 2)));
-    two[1]->article = 5;
+    two.modify(1, [](item &of) { of.article = 5; });
     IS(two[0]->article == 8 && two[1]->article == 5);
-    THROWS(out_of_range, items[2]->price = 1);
+    THROWS(out_of_range, items.modify(2, [](item &of) { of.price = 1; }));
     IS(items.size() == 2);
-    // the right side comes first, and a vector that moves meanwhile gets what is written
-    items[0]->price = (items.append_range(std::vector<item>(100, item{})), 8.5);
+    // what throws writes nothing
+    throws<int>(__LINE__, "modify", [&] {
+        items.modify(0, [](item &of) {
+            of.price = 7;
+            throw 5;
+        });
+    });
+    IS(items[0]->price == 2.5);
+    // a vector that moves meanwhile gets what is written
+    items.modify(0, [&](item &of) {
+        items.append_range(std::vector<item>(100, item{}));
+        of.price = 8.5;
+    });
     IS(items[0]->price == 8.5 && items.size() == 102);
-    // in a segment that is open for reading, `->` reads
-    const std::vector<u8> image = s.save();
-    segment reader = segment::open(image, zaluxhoni::mode::read);
+    segment reader = segment::open(s.save(), zaluxhoni::mode::read);
     const auto read = reader.vector<item>("items");
-    IS(read[0]->price == 8.5 && read.begin()->shelf == 7);
-    THROWS(read_only, read[0]->price = 1);
-    THROWS(read_only, read.begin()->price = 1);
-    // another error goes on
-    try {
-        const auto fails = []() -> double { throw 5; };
-        const auto both = [](double first, double second) { return first + second; };
-        IS(both(items[0]->price += 1, items[1]->price = 4) == 13.5);
-        static_cast<void>(both(read[0]->price, fails()));
-        IS(false);
-    } catch (int) {
-        IS(items[0]->price == 9.5);
-    }
+    IS(read[0]->price == 8.5 && read.begin()->shelf == 8);
+    THROWS(read_only, read.modify(0, [](item &of) { of.price = 1; }));
+    const auto list = s.strings("list");
+    list.assign({"a", "b"});
+    list.modify(1, [](std::string &of) { of.append(3, 'c'); });
+    IS(list == (std::vector<std::string>{"a", "bccc"}));
+    const auto m = s.map<i32, i64>("m");
+    m[3] = 4;
+    m[3].modify([](i64 &of) { of = of * of; });
+    IS(m.get(3) == 16);
+    THROWS(absent, m[4].modify([](i64 &of) { of++; }));
+    IS(!m.contains(4));
 }
 
 /// `find_or_construct` gives the object.
@@ -1116,7 +1124,8 @@ void objects_found_or_made() {
     const auto row = s.find_or_construct<i32>("row", 3, 4);
     row[2] = 9;
     IS(row.count == 4 && row.object().size() == 4 && row.object()[2] == 9 && row.handle == row.object().handle());
-    s.find_or_construct<item>("item", item{1, 2, 3, 4})->stock = 77;
+    IS(s.find_or_construct<item>("item", item{1, 2, 3, 4})->stock == 3);
+    (*s.find_or_construct<item>("item", item{})).modify([](item &of) { of.stock = 77; });
     IS(s.find_or_construct<item>("item", item{})->stock == 77 && s.find_or_construct<item>("item", item{}).count == 1);
     s.find_or_construct_vector<i64>("queue")->push_back(1);
     (*s.find_or_construct_vector<i64>("queue")).push_back(2);

@@ -748,6 +748,32 @@ struct state {
     }
 };
 
+/// The state of an object that was moved from: that of no segment, which is closed.
+inline state no_segment;
+
+/// The state of a segment, shared by all that was asked of the segment. It is never null: after a move from it, it is
+/// `no_segment`.
+class shared_state {
+  public:
+    shared_state(std::shared_ptr<state> of) noexcept : of_(std::move(of)) {}
+    shared_state(const shared_state &) = default;
+    shared_state(shared_state &&other) noexcept : of_(std::exchange(other.of_, none())) {}
+    shared_state &operator=(const shared_state &) = default;
+    shared_state &operator=(shared_state &&other) noexcept {
+        of_ = std::exchange(other.of_, none());
+        return *this;
+    }
+    ~shared_state() = default;
+
+    state *get() const noexcept { return of_.get(); }
+    state *operator->() const noexcept { return of_.get(); }
+
+  private:
+    static std::shared_ptr<state> none() noexcept { return {std::shared_ptr<state>(), &no_segment}; }
+
+    std::shared_ptr<state> of_;
+};
+
 /// What a transaction keeps of a segment. The destructor restores it, unless the change is kept.
 class snapshot {
   public:
@@ -1010,7 +1036,7 @@ struct lines {
     using passed_type = std::string_view;
     using target = spot;
 
-    static bool is_located(const spot &of, state *) noexcept { return of.of != nullptr; }
+    static bool is_located(const spot &of, state *in) noexcept { return of.of == in; }
     static std::string get_here(const spot &of, std::uint64_t index) { return get(of, index); }
     static spot located(const spot &of) noexcept { return of; }
     template <class Row> static std::uint64_t size(const spot &, const Row &row) { return row.measure().len; }
@@ -1810,7 +1836,7 @@ class segment {
 class group {
   public:
     group(std::shared_ptr<detail::state> of, std::string prefix) : of_(std::move(of)), prefix_(std::move(prefix)) {
-        if (of_ == nullptr) throw closed();
+        if (of_.get() == nullptr) throw closed();
     }
 
     [[nodiscard]] const std::string &prefix() const noexcept { return prefix_; }
@@ -1831,14 +1857,14 @@ class group {
     }
 
   private:
-    std::shared_ptr<detail::state> of_;
+    detail::shared_state of_;
     std::string prefix_;
 };
 
 // ---- one object
 
-/// The base of all objects: their segment and their handle. After the segment is freed, each call throws `closed`.
-/// After the object is destroyed, calls throw `not_found`; once another object has its handle, they are for that
+/// The base of all objects: their segment and their handle. After the segment is freed, or the object is moved from,
+/// each call throws `closed`. After the object is destroyed, calls throw `not_found`; once another object has its handle, they are for that
 /// object, or throw `wrong_kind`.
 class object {
   public:
@@ -1850,7 +1876,7 @@ class object {
     object(const segment &of, const key &at, std::uint32_t kind) : object(of.state_, of.existing(at, kind)) {}
 
     detail::spot spot() const noexcept { return {of_.get(), handle_}; }
-    const std::shared_ptr<detail::state> &state() const noexcept { return of_; }
+    const detail::shared_state &state() const noexcept { return of_; }
     const detail::viewed_bytes &viewed() const noexcept { return of_->viewed; }
     measures measured() const {
         measures told{0, 0};
@@ -1859,7 +1885,7 @@ class object {
     }
 
   private:
-    std::shared_ptr<detail::state> of_;
+    detail::shared_state of_;
     std::uint64_t handle_;
 };
 
@@ -1882,7 +1908,7 @@ template <class T> class view {
     using value_type = std::remove_const_t<T>;
     using iterator = T *;
 
-    view(std::shared_ptr<detail::state> of, const zx_elements &there) : of_(std::move(of)), there_(there) {}
+    view(detail::shared_state of, const zx_elements &there) : of_(std::move(of)), there_(there) {}
 
     /// Tells whether the elements are still there: no call has changed the segment since, and none has saved what was
     /// written.
@@ -1910,7 +1936,7 @@ template <class T> class view {
         else return zx_is_current(of_->raw(), &there_) ? static_cast<T *>(there_.at) : nullptr;
     }
 
-    std::shared_ptr<detail::state> of_;
+    detail::shared_state of_;
     zx_elements there_;
 };
 

@@ -1115,6 +1115,90 @@ void members_that_are_written() {
     IS(!m.contains(4));
 }
 
+/// What was moved from is closed, whatever it is, and can be assigned to.
+void moved_from() {
+    segment s = segment::create(8192);
+    auto v = s.vector<i64>("v");
+    auto items = s.vector<item>("items");
+    auto m = s.map<i64, i64>("m");
+    auto text = s.string("t");
+    auto list = s.strings("l");
+    auto group = s.group("");
+    s.construct<i64>("n", 7);
+    auto n = s.array<i64>("n");
+    auto found = s.find_or_construct<i64>("n", 0);
+    v.assign({1, 2});
+    items.push_back({1, 2, 3, 4});
+    m.put(1, 10);
+    text.assign("text");
+    list.assign({"a", "b"});
+    IS(v[0] == 1 && items[0]->article == 2 && text[0] == 't' && list[1] == "b" && list.size() == 2 && group.size() == 6);
+    auto there = v.cview();
+    const auto w = std::move(v);
+    const auto others = std::move(items);
+    const auto q = std::move(m);
+    const auto words = std::move(text);
+    const auto rest = std::move(list);
+    const auto all = std::move(group);
+    const auto number = std::move(n);
+    const auto had = std::move(found);
+    const auto seen = std::move(there);
+    // NOLINTBEGIN(bugprone-use-after-move): that is what is tried
+    THROWS(closed, v.size());
+    THROWS(closed, v.push_back(3));
+    THROWS(closed, v[0].value());
+    THROWS(closed, v[0] = 5);
+    THROWS(closed, v.end());
+    THROWS(closed, v.to_vector());
+    THROWS(closed, v.view());
+    THROWS(closed, v.append_range(w.cview()));
+    THROWS(closed, items.back());
+    THROWS(closed, items[0]->price);
+    THROWS(closed, items.push_back({}));
+    THROWS(closed, m.contains(1));
+    THROWS(closed, m.put(1, 1));
+    THROWS(closed, m[1] += 1);
+    THROWS(closed, m.begin());
+    THROWS(closed, m.erase(1));
+    THROWS(closed, text.str());
+    THROWS(closed, text.append("x"));
+    THROWS(closed, text.view());
+    THROWS(closed, text[0].value());
+    THROWS(closed, list[1].value());
+    THROWS(closed, list.size());
+    THROWS(closed, list.push_back("x"));
+    THROWS(closed, list[0] = "x");
+    THROWS(closed, list.to_vector());
+    THROWS(closed, group.size());
+    THROWS(closed, n[0].value());
+    THROWS(closed, n.measure());
+    THROWS(closed, (*found).value());
+    IS(!there.is_current());
+    throws<zaluxhoni::outdated>(__LINE__, "outdated", [&] { return there[0]; });
+    segment t = std::move(s);
+    THROWS(closed, s.size());
+    THROWS(closed, s.vector<i64>("v"));
+    THROWS(closed, s.transaction([] {}));
+    s.close();
+    IS(!s.is_open());
+    // NOLINTEND(bugprone-use-after-move)
+    IS(w.size() == 2 && others[0]->stock == 3 && q.get(1) == 10 && words == "text" && rest[1] == "b");
+    IS(all.size() == 6 && number[0] == 7 && *had == 7 && seen[1] == 2);
+    v = w;
+    list = rest;
+    text = t.string("t");
+    m = t.map<i64, i64>("m");
+    IS(v[1] == 2 && list[0] == "a" && list.size() == 2 && text == "text" && m.get(1) == 10);
+    // a copy of what was moved from is closed too, and what was moved from outlives the segment
+    auto gone = std::move(list);
+    const auto copy = list;
+    THROWS(closed, copy[0].value());
+    gone = t.strings("l");
+    t = segment();
+    THROWS(closed, list[0].value());
+    THROWS(closed, gone[0].value());
+}
+
 /// `find_or_construct` gives the object.
 void objects_found_or_made() {
     segment s = segment::create(65536);
@@ -1212,7 +1296,7 @@ void every_case() {
                                elements, texts, FORMATS algorithms, bulk, own_types, views_without_a_copy,
                                views_that_are_passed, iterators_in_place, iterators_and_modes, several_calls_as_one, const_segments, groups,
                                segments_that_grow, errors, sizes_that_do_not_fit, swapped, projected,
-                               members_as_in_std, maps_both_ways, members_that_are_written, objects_found_or_made,
+                               members_as_in_std, maps_both_ways, members_that_are_written, moved_from, objects_found_or_made,
                                storage_that_cannot_double, an_open_that_waits};
     for (void (*each)() : cases) {
         try {

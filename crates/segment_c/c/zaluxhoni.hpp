@@ -173,7 +173,8 @@ class bad_image : public refused {
 class file_error : public std::system_error, public error {
   public:
     file_error(zx_code code, int number, const std::string &path)
-        : std::system_error(number, std::generic_category(), path + ": " + words(code)), zaluxhoni::error(code) {}
+        : std::system_error(number, std::generic_category(), (path.empty() ? path : path + ": ") + words(code)),
+          zaluxhoni::error(code) {}
     using std::system_error::code;
     zx_code file_code() const noexcept { return zaluxhoni::error::code(); }
     const char *what() const noexcept override { return std::system_error::what(); }
@@ -199,6 +200,7 @@ using file_forked = file_error_of<ZX_FILE_FORKED>;
 using file_log_foreign = file_error_of<ZX_FILE_LOG_FOREIGN>;
 /// A commit failed while the system synced it, and may be on the disk or not; only `save_file` may follow.
 using file_unsure = file_error_of<ZX_FILE_UNSURE>;
+/// A transaction is open: it is saved when it ends, and not before.
 using file_in_step = file_error_of<ZX_FILE_IN_STEP>;
 
 /// Throws the error of a code that a file call returned.
@@ -679,11 +681,17 @@ struct state {
     std::string path;
     bool grows = false;
     viewed_bytes viewed;
+    /// The number of open transactions.
+    std::uint64_t steps = 0;
 
     zx_segment *raw() noexcept { return &file.segment; }
     /// Throws unless the code is ZX_DONE; a `file_error` for a code of files.
     void check(zx_code code) const {
         if (code != ZX_DONE) throw_file_code(code, file, path);
+    }
+    /// Throws `file_in_step` within a transaction.
+    void check_no_step() const {
+        if (steps != 0) throw file_in_step(EBUSY, path);
     }
 
     /// Makes a call that may need space. If there is none, and the segment grows by itself, makes the segment longer.
@@ -774,23 +782,32 @@ class shared_state {
     std::shared_ptr<state> of_;
 };
 
-/// What a transaction keeps of a segment. The destructor restores it, unless the change is kept.
+/// What a transaction keeps of a segment, whose state it shares: the segment may be assigned to, or destroyed, within
+/// the transaction. The destructor restores the segment, unless the change is kept.
 class snapshot {
   public:
-    explicit snapshot(state &of) : of_(of) { of_.check(zx_file_begin(&of_.file, &before_)); }
-    snapshot(const snapshot &) = delete;
-    ~snapshot() {
-        if (before_.copy.at == nullptr && before_.kept == nullptr) return;
-        if (zx_file_undo(&of_.file, &before_) == ZX_DONE) return;
-        // closes a segment that cannot be restored, so that nobody takes it for the old one
-        zx_file_discard(&of_.file);
-        zx_file_leave(&of_.file, &before_);
+    explicit snapshot(std::shared_ptr<state> of) : of_(std::move(of)) {
+        of_->check(zx_file_begin(&of_->file, &before_));
+        of_->steps++;
     }
-    /// Keeps the change. The outermost transaction of a durable file commits it.
-    void keep() { of_.check(zx_file_keep(&of_.file, &before_)); }
+    snapshot(const snapshot &) = delete;
+    snapshot &operator=(const snapshot &) = delete;
+    ~snapshot() {
+        of_->steps--;
+        if (before_.copy.at == nullptr && before_.kept == nullptr) return;
+        if (zx_file_undo(&of_->file, &before_) == ZX_DONE) return;
+        // closes a segment that cannot be restored, so that nobody takes it for the old one
+        zx_file_discard(&of_->file);
+        zx_file_leave(&of_->file, &before_);
+    }
+    /// Keeps the change. The outermost transaction of a durable file commits it. Throws `closed` if the segment ended.
+    void keep() {
+        if (of_->raw()->at == nullptr) throw closed();
+        of_->check(zx_file_keep(&of_->file, &before_));
+    }
 
   private:
-    state &of_;
+    std::shared_ptr<state> of_;
     zx_step before_{};
 };
 
@@ -1384,15 +1401,15 @@ class segment {
     /// Constructs a closed segment.
     segment() = default;
     segment(segment &&) noexcept = default;
-    /// Frees the old segment, as `close` does.
+    /// Frees the old segment, as the destructor does, within its transaction too: then that throws `closed`.
     segment &operator=(segment &&other) noexcept {
         if (this != &other) {
-            close();
+            end();
             state_ = std::move(other.state_);
         }
         return *this;
     }
-    ~segment() { close(); }
+    ~segment() { end(); }
 
     /// Creates an empty segment of `size` bytes: 144, or a multiple of 16 from 176 to 1073741824.
     [[nodiscard]] static segment create(std::uint64_t size) {
@@ -1459,9 +1476,10 @@ class segment {
     }
 
     /// Frees the segment without saving, and removes a file that it created and never saved. Everything that was asked
-    /// of it throws `closed` from then on.
-    void close() noexcept {
-        if (state_ != nullptr) zx_file_discard(&state_->file);
+    /// of it throws `closed` from then on. Throws `file_in_step` within a transaction.
+    void close() {
+        if (state_ != nullptr) state_->check_no_step();
+        end();
     }
     [[nodiscard]] bool is_open() const noexcept { return state_ != nullptr && state_->raw()->at != nullptr; }
     explicit operator bool() const noexcept { return is_open(); }
@@ -1479,22 +1497,23 @@ class segment {
 
     /// Saves the segment in its file, unless the file has these bytes already. A new file replaces the old one when it
     /// is wholly on the disk. Whatever fails, the name leads to the whole old image or the whole new one. Throws
-    /// `file_error` if the file is refused; only after `file_unsynced` it is saved.
-    void save_file() const { state().check(zx_file_save(&state().file)); }
+    /// `file_error` if the file is refused; only after `file_unsynced` it is saved. Within a transaction each call that
+    /// saves throws `file_in_step`.
+    void save_file() const { outside_step().check(zx_file_save(&state().file)); }
     /// Commits the changes of a durable file: when it returns, they are on the disk. It costs what was changed. For any
     /// other file it is `flush_file`. Throws `file_unsure` if nobody knows whether they are there.
-    void commit() const { state().check(zx_file_commit(&state().file)); }
+    void commit() const { outside_step().check(zx_file_commit(&state().file)); }
     /// Waits until the changes of a mapped file are on the disk; saves any other file.
-    void flush_file() const { state().check(zx_file_flush(&state().file)); }
+    void flush_file() const { outside_step().check(zx_file_flush(&state().file)); }
     /// Saves as `save_file` does, and frees the segment. For a mapped file it does not wait for the disk.
     void close_file() {
         if (!is_open()) throw closed();
-        state().check(zx_file_close(&state().file));
+        outside_step().check(zx_file_close(&state().file));
     }
     /// Saves the image to the file at a path, and creates that file if it does not exist. For the segment's own file it
     /// is `save_file()`.
     void save_file(const std::string &path) const {
-        const zx_code code = zx_file_save_as(&state().file, whole(path).c_str(), ZX_OPEN_OR_CREATE);
+        const zx_code code = zx_file_save_as(&outside_step().file, whole(path).c_str(), ZX_OPEN_OR_CREATE);
         if (code != ZX_DONE) throw_file_code(code, state().file, path);
     }
 
@@ -1515,11 +1534,13 @@ class segment {
     /// Runs `call`. Each time it throws `no_space`, makes the segment longer by half and runs it again. If the segment
     /// cannot grow further, throws `too_large` or `no_memory`; the segment keeps the length that it has by then.
     template <class Call> auto growing(Call call) -> decltype(call()) {
+        // `call` may assign to this segment, or destroy it
+        const std::shared_ptr<detail::state> of = shared();
         for (;;) {
             try {
                 return call();
             } catch (const no_space &) {
-                state().check(state().grow_by_half());
+                of->check(of->grow_by_half());
             }
         }
     }
@@ -1528,9 +1549,11 @@ class segment {
     /// durable file the outermost step is committed; if that throws anything but `file_unsure`, the segment is restored.
     /// Otherwise it saves no file. It costs what is changed. A segment in memory, or opened by copy, is copied by its first
     /// step, by the next one after it moved to grow or the process forked, and always if it has less than 128 KiB. If
-    /// memory, or room in a mapped file, is missing to restore the segment, it is closed.
+    /// memory, or room in a mapped file, is missing to restore the segment, it is closed. Within `call` the calls that
+    /// save or close the segment throw `file_in_step`. If `call` destroys the segment, or assigns to it, the
+    /// transaction throws `closed`.
     template <class Call> auto transaction(Call call) -> decltype(call()) {
-        detail::snapshot before(state());
+        detail::snapshot before(shared());
         if constexpr (std::is_void_v<decltype(call())>) {
             call();
             before.keep();
@@ -1773,6 +1796,17 @@ class segment {
         if (state_ == nullptr) throw closed();
         return *state_;
     }
+    const std::shared_ptr<detail::state> &shared() const {
+        if (state_ == nullptr) throw closed();
+        return state_;
+    }
+    detail::state &outside_step() const {
+        state().check_no_step();
+        return state();
+    }
+    void end() noexcept {
+        if (state_ != nullptr) zx_file_discard(&state_->file);
+    }
 
     /// Returns the count; throws `bad_count` if no object can have so many values.
     static std::uint32_t count_of(std::uint64_t count) {
@@ -1864,8 +1898,8 @@ class group {
 // ---- one object
 
 /// The base of all objects: their segment and their handle. After the segment is freed, or the object is moved from,
-/// each call throws `closed`. After the object is destroyed, calls throw `not_found`; once another object has its handle, they are for that
-/// object, or throw `wrong_kind`.
+/// each call throws `closed`. After the object is destroyed, calls throw `not_found`; once another object has its
+/// handle, they are for that object, or throw `wrong_kind`.
 class object {
   public:
     object(std::shared_ptr<detail::state> of, std::uint64_t handle) noexcept : of_(std::move(of)), handle_(handle) {}

@@ -773,12 +773,107 @@ void several_calls_as_one() {
     IS(s.save() == small);
     segment read = segment::open(s.save(), zaluxhoni::mode::read);
     THROWS(read_only, read.transaction([] {}));
-    segment gone = segment::create(1024);
-    THROWS(no_space, gone.transaction([&] {
-        gone.close();
-        throw zaluxhoni::no_space();
-    }));
-    IS(!gone.is_open());
+}
+
+/// A path of a file of this thread.
+std::string own_path(const char *name) {
+    return name + std::to_string(std::hash<std::thread::id>()(std::this_thread::get_id())) + ".seg";
+}
+
+/// Within a transaction nothing is saved and nothing is closed, and a segment that ends there is not kept by mistake.
+void transactions_and_files() {
+    const std::string path = own_path("step"), other = own_path("other");
+    segment (*const makes[])(const std::string &) = {
+        [](const std::string &) { return segment::create(65536); },
+        [](const std::string &at) { return segment::open_or_create_file(at, 65536); },
+        [](const std::string &at) { return segment::map_or_create_file(at, 65536); },
+        [](const std::string &at) { return segment::open_or_create_durable_file(at, 65536); }};
+    for (const auto make : makes) {
+        for (const std::string &each : {path, other, path + "-log"}) std::remove(each.c_str());
+        segment s = make(path);
+        const bool has_file = make != makes[0];
+        const auto v = s.vector<i64>("v");
+        v.push_back(1);
+        if (has_file) s.save_file();
+        const auto refuses = [&](const auto &call) {
+            THROWS(file_in_step, s.transaction([&] {
+                v.push_back(2);
+                call();
+            }));
+            IS(s.is_open() && v.size() == 1);
+        };
+        refuses([&] { s.close(); });
+        refuses([&] { s.close_file(); });
+        refuses([&] { s.save_file(); });
+        refuses([&] { s.save_file(other); });
+        refuses([&] { s.commit(); });
+        refuses([&] { s.flush_file(); });
+        refuses([&] { s.transaction([&] { s.close(); }); });
+        THROWS(file_missing, segment::open_file(other));
+        s.transaction([&] {
+            v.push_back(3);
+            THROWS(file_in_step, s.save_file());
+            THROWS(file_in_step, s.close());
+        });
+        IS(v.size() == 2);
+        try {
+            s.transaction([&] { s.close(); });
+        } catch (const zaluxhoni::file_in_step &error) {
+            const std::string said = error.what(), words = zaluxhoni::words(ZX_FILE_IN_STEP);
+            IS(said.find(has_file ? path + ": " + words : words) == 0 && error.code().value() == EBUSY);
+        }
+        // a segment that ends within its transaction, by a move, an assignment or its destructor
+        THROWS(closed, s.transaction([&] {
+            v.push_back(4);
+            s = segment::create(4096);
+        }));
+        IS(s.is_open() && s.size() == 4096);
+        THROWS(closed, v.size());
+        s = segment();
+        if (has_file) {
+            const segment kept = segment::open_file(path, zaluxhoni::mode::read);
+            IS(kept.vector<i64>("v").to_vector().size() <= 2 && kept.sanity());
+        }
+        auto *const deleted = new segment(make(path));
+        THROWS(closed, deleted->transaction([&] { delete deleted; }));
+        s = make(path);
+        segment later;
+        s.transaction([&] {
+            s.vector<i64>("w").push_back(1);
+            later = std::move(s);
+        });
+        IS(!s.is_open() && later.vector<i64>("w").size() == 1);
+        throws<int>(__LINE__, "transaction", [&] {
+            later.transaction([&] {
+                later.vector<i64>("w").push_back(2);
+                s = std::move(later);
+                throw 5;
+            });
+        });
+        IS(s.vector<i64>("w").size() == 1);
+        throws<int>(__LINE__, "transaction", [&] {
+            s.transaction([&] {
+                s = segment::create(1024);
+                throw 5;
+            });
+        });
+        IS(s.size() == 1024);
+        // `growing` makes longer the segment that it was called for
+        int times = 0;
+        THROWS(closed, s.growing([&] {
+            s = segment::create(2048);
+            if (times++ < 2) throw zaluxhoni::no_space();
+        }));
+        IS(times == 1 && s.size() == 2048);
+        auto *const grown = new segment(segment::create(1024));
+        THROWS(closed, grown->growing([&] {
+            delete grown;
+            throw zaluxhoni::no_space();
+        }));
+        s.close();
+        IS(!s.is_open());
+        for (const std::string &each : {path, path + "-log"}) std::remove(each.c_str());
+    }
 }
 
 void const_segments() {
@@ -1294,9 +1389,10 @@ void the_longest_segment() {
 void every_case() {
     void (*const cases[])() = {an_array_that_is_made_anew, numbers_that_do_not_fit, truths, texts_that_are_stored,
                                elements, texts, FORMATS algorithms, bulk, own_types, views_without_a_copy,
-                               views_that_are_passed, iterators_in_place, iterators_and_modes, several_calls_as_one, const_segments, groups,
-                               segments_that_grow, errors, sizes_that_do_not_fit, swapped, projected,
-                               members_as_in_std, maps_both_ways, members_that_are_written, moved_from, objects_found_or_made,
+                               views_that_are_passed, iterators_in_place, iterators_and_modes, several_calls_as_one,
+                               transactions_and_files, const_segments, groups, segments_that_grow, errors,
+                               sizes_that_do_not_fit, swapped, projected, members_as_in_std, maps_both_ways,
+                               members_that_are_written, moved_from, objects_found_or_made,
                                storage_that_cannot_double, an_open_that_waits};
     for (void (*each)() : cases) {
         try {

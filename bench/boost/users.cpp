@@ -60,7 +60,9 @@ class Side {
     }
     void push_item(const item &of) { items_.push_back(of); }
     double price(std::uint64_t at) { return items_[at]->price; }
-    void set_price(std::uint64_t at, double price) { items_[at]->price = price; }
+    void set_price(std::uint64_t at, double price) {
+        items_.modify(at, [&](item &of) { of.price = price; });
+    }
     void push_text(const std::string &text) { texts_.push_back(text); }
     void make(const std::string &name, i64 value) { segment_.construct<i64>(name, value); }
     i64 read(const std::string &name) { return segment_.get<i64>(name); }

@@ -5,6 +5,8 @@
    - Make one call at a time on a handle, and all of them on one thread.
    - No pointer to a handle, key, value or result is null. The call may read what it points to, and write it if it is
      not const. What a call writes through one pointer overlaps nothing else that it is given.
+   - A slice that is passed to a call which changes the segment lies outside the segment: copy what zx_view tells of
+     first.
    - A slice is a pointer and a number of elements. A null slice returns ZX_NULL_SLICE, even an empty one, and so does
      a null text in a list. The calls that take a slice are inline functions of this header, which check it.
    - Names and texts are bytes: UTF-8 in names, anything in texts. No byte 0 ends them.

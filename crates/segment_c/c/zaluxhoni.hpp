@@ -173,7 +173,8 @@ class bad_image : public refused {
 class file_error : public std::system_error, public error {
   public:
     file_error(zx_code code, int number, const std::string &path)
-        : std::system_error(number, std::generic_category(), path + ": " + words(code)), zaluxhoni::error(code) {}
+        : std::system_error(number, std::generic_category(), (path.empty() ? path : path + ": ") + words(code)),
+          zaluxhoni::error(code) {}
     using std::system_error::code;
     zx_code file_code() const noexcept { return zaluxhoni::error::code(); }
     const char *what() const noexcept override { return std::system_error::what(); }
@@ -199,6 +200,7 @@ using file_forked = file_error_of<ZX_FILE_FORKED>;
 using file_log_foreign = file_error_of<ZX_FILE_LOG_FOREIGN>;
 /// A commit failed while the system synced it, and may be on the disk or not; only `save_file` may follow.
 using file_unsure = file_error_of<ZX_FILE_UNSURE>;
+/// A transaction is open: it is saved when it ends, and not before.
 using file_in_step = file_error_of<ZX_FILE_IN_STEP>;
 
 /// Throws the error of a code that a file call returned.
@@ -416,6 +418,7 @@ template <class T> using value_of = std::conditional_t<std::is_arithmetic_v<T>, 
 
 namespace detail {
 
+class viewed_bytes;
 template <class T, class R, class = void> inline constexpr bool is_row = false;
 /// The base of what reads elements of a segment. A call copies them: it may move what `data()` refers to.
 struct in_segment {};
@@ -464,6 +467,8 @@ template <class T> class slice {
     const T *end() const noexcept { return at_ + count_; }
 
   private:
+    friend class detail::viewed_bytes;
+
     template <class R> void copy(const R &range) {
         count_ = static_cast<std::size_t>(std::distance(std::begin(range), std::end(range)));
         copy_ = std::make_unique<T[]>(count_);
@@ -639,16 +644,54 @@ template <class Object> class found_object;
 
 namespace detail {
 
+/// The bytes of a segment to which the program has pointers, since it asked for a view or an address. A call that takes
+/// such bytes gets a copy of them: it may move the object, or the whole segment, before it reads them.
+class viewed_bytes {
+  public:
+    void add(const void *at, std::size_t len) noexcept {
+        if (len == 0) return;
+        begin_ = std::min(begin_, address(at));
+        end_ = std::max(end_, address(at) + len);
+    }
+    void clear() noexcept { *this = viewed_bytes(); }
+
+    [[nodiscard]] bool has(std::string_view text) const noexcept { return meets(text.data(), text.size()); }
+    [[nodiscard]] bool has(const texts &list) const noexcept {
+        return std::any_of(list.data(), list.data() + list.size(),
+                           [&](const zx_text &each) { return meets(each.at, each.len); });
+    }
+    /// Copies elements that are among these bytes.
+    template <class T> void detach(slice<T> &values) const {
+        if (values.copy_ != nullptr || !meets(values.at_, values.count_ * sizeof(T))) return;
+        values.copy(slice<T>(values.at_, values.count_));
+    }
+
+  private:
+    static std::uintptr_t address(const void *at) noexcept { return reinterpret_cast<std::uintptr_t>(at); }
+    bool meets(const void *at, std::size_t len) const noexcept {
+        return address(at) < end_ && address(at) + len > begin_;
+    }
+
+    std::uintptr_t begin_ = std::numeric_limits<std::uintptr_t>::max(), end_ = 0;
+};
+
 /// The state of a segment, at an address that never changes.
 struct state {
     zx_file file{};
     std::string path;
     bool grows = false;
+    viewed_bytes viewed;
+    /// The number of open transactions.
+    std::uint64_t steps = 0;
 
     zx_segment *raw() noexcept { return &file.segment; }
     /// Throws unless the code is ZX_DONE; a `file_error` for a code of files.
     void check(zx_code code) const {
         if (code != ZX_DONE) throw_file_code(code, file, path);
+    }
+    /// Throws `file_in_step` within a transaction.
+    void check_no_step() const {
+        if (steps != 0) throw file_in_step(EBUSY, path);
     }
 
     /// Makes a call that may need space. If there is none, and the segment grows by itself, makes the segment longer.
@@ -684,7 +727,11 @@ struct state {
         const zx_code code = zx_size(raw(), &size);
         if (code != ZX_DONE) return code;
         const std::uint64_t left = largest - size, wanted = (size / 2 + 4096) / 16 * 16;
-        return zx_file_grow(&file, left < wanted && left >= 32 ? left : wanted);
+        return grow(left < wanted && left >= 32 ? left : wanted);
+    }
+    zx_code grow(std::uint64_t extra) {
+        viewed.clear();
+        return zx_file_grow(&file, extra);
     }
 
   private:
@@ -709,23 +756,58 @@ struct state {
     }
 };
 
-/// What a transaction keeps of a segment. The destructor restores it, unless the change is kept.
-class snapshot {
+/// The state of an object that was moved from: that of no segment, which is closed.
+inline state no_segment;
+
+/// The state of a segment, shared by all that was asked of the segment. It is never null: after a move from it, it is
+/// `no_segment`.
+class shared_state {
   public:
-    explicit snapshot(state &of) : of_(of) { of_.check(zx_file_begin(&of_.file, &before_)); }
-    snapshot(const snapshot &) = delete;
-    ~snapshot() {
-        if (before_.copy.at == nullptr && before_.kept == nullptr) return;
-        if (zx_file_undo(&of_.file, &before_) == ZX_DONE) return;
-        // closes a segment that cannot be restored, so that nobody takes it for the old one
-        zx_file_discard(&of_.file);
-        zx_file_leave(&of_.file, &before_);
+    shared_state(std::shared_ptr<state> of) noexcept : of_(std::move(of)) {}
+    shared_state(const shared_state &) = default;
+    shared_state(shared_state &&other) noexcept : of_(std::exchange(other.of_, none())) {}
+    shared_state &operator=(const shared_state &) = default;
+    shared_state &operator=(shared_state &&other) noexcept {
+        of_ = std::exchange(other.of_, none());
+        return *this;
     }
-    /// Keeps the change. The outermost transaction of a durable file commits it.
-    void keep() { of_.check(zx_file_keep(&of_.file, &before_)); }
+    ~shared_state() = default;
+
+    state *get() const noexcept { return of_.get(); }
+    state *operator->() const noexcept { return of_.get(); }
 
   private:
-    state &of_;
+    static std::shared_ptr<state> none() noexcept { return {std::shared_ptr<state>(), &no_segment}; }
+
+    std::shared_ptr<state> of_;
+};
+
+/// What a transaction keeps of a segment, whose state it shares: the segment may be assigned to, or destroyed, within
+/// the transaction. The destructor restores the segment, unless the change is kept.
+class snapshot {
+  public:
+    explicit snapshot(std::shared_ptr<state> of) : of_(std::move(of)) {
+        of_->check(zx_file_begin(&of_->file, &before_));
+        of_->steps++;
+    }
+    snapshot(const snapshot &) = delete;
+    snapshot &operator=(const snapshot &) = delete;
+    ~snapshot() {
+        of_->steps--;
+        if (before_.copy.at == nullptr && before_.kept == nullptr) return;
+        if (zx_file_undo(&of_->file, &before_) == ZX_DONE) return;
+        // closes a segment that cannot be restored, so that nobody takes it for the old one
+        zx_file_discard(&of_->file);
+        zx_file_leave(&of_->file, &before_);
+    }
+    /// Keeps the change. The outermost transaction of a durable file commits it. Throws `closed` if the segment ended.
+    void keep() {
+        if (of_->raw()->at == nullptr) throw closed();
+        of_->check(zx_file_keep(&of_->file, &before_));
+    }
+
+  private:
+    std::shared_ptr<state> of_;
     zx_step before_{};
 };
 
@@ -971,7 +1053,7 @@ struct lines {
     using passed_type = std::string_view;
     using target = spot;
 
-    static bool is_located(const spot &of, state *) noexcept { return of.of != nullptr; }
+    static bool is_located(const spot &of, state *in) noexcept { return of.of == in; }
     static std::string get_here(const spot &of, std::uint64_t index) { return get(of, index); }
     static spot located(const spot &of) noexcept { return of; }
     template <class Row> static std::uint64_t size(const spot &, const Row &row) { return row.measure().len; }
@@ -981,6 +1063,7 @@ struct lines {
         });
     }
     static void set(const spot &of, std::uint64_t index, std::string_view text) {
+        if (of.of->viewed.has(text)) return set(of, index, std::string(text));
         of.change(zx_set_text, index, bytes_of(text), text.size());
     }
 };
@@ -1057,7 +1140,7 @@ template <class T> T quotient(T a, T b) {
     }
 }
 
-/// Holds a value that is read through `->`.
+/// Holds the value that `->` of an element reads. A member of it cannot be written.
 template <class T> class arrow {
   public:
     explicit arrow(T value) : value_(std::move(value)) {}
@@ -1066,43 +1149,6 @@ template <class T> class arrow {
   private:
     T value_;
 };
-
-/// Whether values have members that `->` reads and writes.
-template <class T> inline constexpr bool has_members = std::is_class_v<T> && std::is_trivially_copyable_v<T>;
-
-/// Holds the value of an element for `->`. If a member was changed, the destructor writes the value, at the end of the
-/// expression.
-template <class Access> class arrow_back {
-  public:
-    using value_type = typename Access::value_type;
-
-    arrow_back(const typename Access::target &of, typename Access::index_type at)
-        : of_(of), at_(at), value_(Access::get(of, at)) {
-        std::memcpy(before_, &value_, sizeof before_);
-    }
-    arrow_back(const arrow_back &) = delete;
-    arrow_back &operator=(const arrow_back &) = delete;
-    ~arrow_back() noexcept(false) {
-        if (std::memcmp(before_, &value_, sizeof before_) == 0) return;
-        try {
-            Access::set(of_, at_, value_);
-        } catch (const error &) {
-            // unless another error is on its way
-            if (std::uncaught_exceptions() == exceptions_) throw;
-        }
-    }
-    value_type *operator->() noexcept { return &value_; }
-
-  private:
-    typename Access::target of_;
-    typename Access::index_type at_;
-    int exceptions_ = std::uncaught_exceptions();
-    value_type value_;
-    unsigned char before_[sizeof(value_type)];
-};
-template <class Access>
-using arrow_of = std::conditional_t<has_members<typename Access::value_type>, arrow_back<Access>,
-                                    arrow<typename Access::value_type>>;
 
 /// What `*` of an element reads into, so that `&item::weight` is a projection of elements: `std::invoke` takes the
 /// member of what `*` gives. A scalar has no members.
@@ -1136,10 +1182,14 @@ template <class Access> class element : private value_kept<typename Access::valu
     template <class T = value_type, std::enable_if_t<std::is_class_v<T>, int> = 0> const T &operator*() const {
         return this->keep(value());
     }
-    /// Reads and writes a member of an element that has some: `records[0]->price = 2.5`.
-    arrow_of<Access> operator->() const {
-        if constexpr (has_members<value_type>) return arrow_back<Access>(of_, at_);
-        else return arrow<value_type>(value());
+    /// Reads a member: `records[0]->price`. `modify`, or a view, writes one.
+    arrow<value_type> operator->() const { return arrow<value_type>(value()); }
+    /// Calls `change` with a copy of the value, and then writes the copy:
+    /// `records[0].modify([](record &of) { of.price = 2.5, of.sold++; })`. If `change` throws, writes nothing.
+    template <class Change> void modify(Change change) const {
+        value_type changed = value();
+        change(changed);
+        to(changed);
     }
 
     const element &operator=(typename Access::passed_type value) const {
@@ -1203,6 +1253,12 @@ template <> class element<lines> : public read_as_text {
     [[nodiscard]] std::string str() const { return value(); }
     operator std::string() const { return value(); }
     arrow<std::string> operator->() const { return arrow<std::string>(value()); }
+    /// Calls `change` with a copy of the text, and then writes the copy. If `change` throws, writes nothing.
+    template <class Change> void modify(Change change) const {
+        std::string changed = value();
+        change(changed);
+        *this = std::string_view(changed);
+    }
 
     const element &operator=(std::string_view text) const {
         lines::set(of_, at_, text);
@@ -1248,9 +1304,7 @@ template <class Access, class R> class iterator {
     using value_type = typename Access::value_type;
     using difference_type = std::ptrdiff_t;
     using reference = R;
-    /// Whether `->` writes, too.
-    static constexpr bool is_arrow_back = has_members<value_type> && !std::is_same_v<R, value_type>;
-    using pointer = std::conditional_t<is_arrow_back, arrow_of<Access>, arrow<value_type>>;
+    using pointer = arrow<value_type>;
 
     iterator() = default;
     iterator(const typename Access::target &of, std::uint64_t index) : of_(of), index_(index) {}
@@ -1259,10 +1313,7 @@ template <class Access, class R> class iterator {
     iterator(const iterator<Access, Other> &other) : of_(other.of_), index_(other.index_) {}
 
     R operator*() const { return (*this)[0]; }
-    pointer operator->() const {
-        if constexpr (is_arrow_back) return pointer(of_, index_);
-        else return pointer(Access::get(of_, index_));
-    }
+    pointer operator->() const { return pointer(Access::get(of_, index_)); }
     R operator[](difference_type by) const {
         if constexpr (std::is_same_v<R, value_type>) return Access::get(of_, moved(by));
         else return R(of_, moved(by));
@@ -1350,15 +1401,15 @@ class segment {
     /// Constructs a closed segment.
     segment() = default;
     segment(segment &&) noexcept = default;
-    /// Frees the old segment, as `close` does.
+    /// Frees the old segment, as the destructor does, within its transaction too: then that throws `closed`.
     segment &operator=(segment &&other) noexcept {
         if (this != &other) {
-            close();
+            end();
             state_ = std::move(other.state_);
         }
         return *this;
     }
-    ~segment() { close(); }
+    ~segment() { end(); }
 
     /// Creates an empty segment of `size` bytes: 144, or a multiple of 16 from 176 to 1073741824.
     [[nodiscard]] static segment create(std::uint64_t size) {
@@ -1425,9 +1476,10 @@ class segment {
     }
 
     /// Frees the segment without saving, and removes a file that it created and never saved. Everything that was asked
-    /// of it throws `closed` from then on.
-    void close() noexcept {
-        if (state_ != nullptr) zx_file_discard(&state_->file);
+    /// of it throws `closed` from then on. Throws `file_in_step` within a transaction.
+    void close() {
+        if (state_ != nullptr) state_->check_no_step();
+        end();
     }
     [[nodiscard]] bool is_open() const noexcept { return state_ != nullptr && state_->raw()->at != nullptr; }
     explicit operator bool() const noexcept { return is_open(); }
@@ -1445,31 +1497,35 @@ class segment {
 
     /// Saves the segment in its file, unless the file has these bytes already. A new file replaces the old one when it
     /// is wholly on the disk. Whatever fails, the name leads to the whole old image or the whole new one. Throws
-    /// `file_error` if the file is refused; only after `file_unsynced` it is saved.
-    void save_file() const { state().check(zx_file_save(&state().file)); }
+    /// `file_error` if the file is refused; only after `file_unsynced` it is saved. Within a transaction each call that
+    /// saves throws `file_in_step`.
+    void save_file() const { outside_step().check(zx_file_save(&state().file)); }
     /// Commits the changes of a durable file: when it returns, they are on the disk. It costs what was changed. For any
     /// other file it is `flush_file`. Throws `file_unsure` if nobody knows whether they are there.
-    void commit() const { state().check(zx_file_commit(&state().file)); }
+    void commit() const { outside_step().check(zx_file_commit(&state().file)); }
     /// Waits until the changes of a mapped file are on the disk; saves any other file.
-    void flush_file() const { state().check(zx_file_flush(&state().file)); }
+    void flush_file() const { outside_step().check(zx_file_flush(&state().file)); }
     /// Saves as `save_file` does, and frees the segment. For a mapped file it does not wait for the disk.
     void close_file() {
         if (!is_open()) throw closed();
-        state().check(zx_file_close(&state().file));
+        outside_step().check(zx_file_close(&state().file));
     }
     /// Saves the image to the file at a path, and creates that file if it does not exist. For the segment's own file it
     /// is `save_file()`.
     void save_file(const std::string &path) const {
-        const zx_code code = zx_file_save_as(&state().file, whole(path).c_str(), ZX_OPEN_OR_CREATE);
+        const zx_code code = zx_file_save_as(&outside_step().file, whole(path).c_str(), ZX_OPEN_OR_CREATE);
         if (code != ZX_DONE) throw_file_code(code, state().file, path);
     }
 
     /// Makes the segment longer by `extra` bytes: a multiple of 16, at least 32.
-    void grow(std::uint64_t extra) { state().check(zx_file_grow(&state().file, extra)); }
+    void grow(std::uint64_t extra) { state().check(state().grow(extra)); }
     /// Cuts the free bytes off the end of the segment.
     void shrink() { state().check(zx_file_shrink(&state().file)); }
     /// Moves the segment into a region of `capacity` bytes.
-    void relocate(std::uint64_t capacity) { check_code(zx_relocate(raw(), capacity)); }
+    void relocate(std::uint64_t capacity) {
+        state().viewed.clear();
+        check_code(zx_relocate(raw(), capacity));
+    }
 
     /// Lets the segment grow by itself: a call that finds no space makes it longer by half, and continues. If it cannot
     /// become long enough, the call throws `too_large` or `no_memory`, and the length is unchanged.
@@ -1478,11 +1534,13 @@ class segment {
     /// Runs `call`. Each time it throws `no_space`, makes the segment longer by half and runs it again. If the segment
     /// cannot grow further, throws `too_large` or `no_memory`; the segment keeps the length that it has by then.
     template <class Call> auto growing(Call call) -> decltype(call()) {
+        // `call` may assign to this segment, or destroy it
+        const std::shared_ptr<detail::state> of = shared();
         for (;;) {
             try {
                 return call();
             } catch (const no_space &) {
-                state().check(state().grow_by_half());
+                of->check(of->grow_by_half());
             }
         }
     }
@@ -1491,9 +1549,11 @@ class segment {
     /// durable file the outermost step is committed; if that throws anything but `file_unsure`, the segment is restored.
     /// Otherwise it saves no file. It costs what is changed. A segment in memory, or opened by copy, is copied by its first
     /// step, by the next one after it moved to grow or the process forked, and always if it has less than 128 KiB. If
-    /// memory, or room in a mapped file, is missing to restore the segment, it is closed.
+    /// memory, or room in a mapped file, is missing to restore the segment, it is closed. Within `call` the calls that
+    /// save or close the segment throw `file_in_step`. If `call` destroys the segment, or assigns to it, the
+    /// transaction throws `closed`.
     template <class Call> auto transaction(Call call) -> decltype(call()) {
-        detail::snapshot before(state());
+        detail::snapshot before(shared());
         if constexpr (std::is_void_v<decltype(call())>) {
             call();
             before.keep();
@@ -1526,17 +1586,21 @@ class segment {
     }
     /// Makes an array of 1 to 1048576 values; for a type that is no scalar, of at most that many bytes.
     template <class T> std::uint64_t construct_array(const key &at, slice<T> values) {
+        state().viewed.detach(values);
         const zx_values passed = stored<T>::values(values.data(), values.size());
         return made(zx_construct_array, at, &passed);
     }
     template <class T> std::uint64_t construct_vector(const key &at, slice<T> values = {}) {
+        state().viewed.detach(values);
         const zx_values passed = stored<T>::values(values.data(), values.size());
         return made(zx_construct_vector, at, &passed);
     }
     std::uint64_t construct_string(const key &at, std::string_view text) {
+        if (state().viewed.has(text)) return construct_string(at, std::string(text));
         return made(zx_construct_string, at, bytes_of(text), text.size());
     }
     std::uint64_t construct_strings(const key &at, const texts &list = {}) {
+        if (state().viewed.has(list)) return construct_strings(at, list.copies());
         return made(zx_construct_strings, at, list.data(), list.size());
     }
     template <class K, class V> std::uint64_t construct_map(const key &at) {
@@ -1627,6 +1691,7 @@ class segment {
         check_code(stored<T>::read(raw(), &raw_key, first, row, count));
     }
     template <class T> void write(const key &at, std::uint64_t first, slice<T> values) {
+        state().viewed.detach(values);
         const zx_key raw_key = at.raw();
         const zx_values passed = stored<T>::values(values.data(), values.size());
         check_code(zx_write_elements(raw(), &raw_key, detail::product(first, stored<T>::width), &passed));
@@ -1731,6 +1796,17 @@ class segment {
         if (state_ == nullptr) throw closed();
         return *state_;
     }
+    const std::shared_ptr<detail::state> &shared() const {
+        if (state_ == nullptr) throw closed();
+        return state_;
+    }
+    detail::state &outside_step() const {
+        state().check_no_step();
+        return state();
+    }
+    void end() noexcept {
+        if (state_ != nullptr) zx_file_discard(&state_->file);
+    }
 
     /// Returns the count; throws `bad_count` if no object can have so many values.
     static std::uint32_t count_of(std::uint64_t count) {
@@ -1794,7 +1870,7 @@ class segment {
 class group {
   public:
     group(std::shared_ptr<detail::state> of, std::string prefix) : of_(std::move(of)), prefix_(std::move(prefix)) {
-        if (of_ == nullptr) throw closed();
+        if (of_.get() == nullptr) throw closed();
     }
 
     [[nodiscard]] const std::string &prefix() const noexcept { return prefix_; }
@@ -1815,15 +1891,15 @@ class group {
     }
 
   private:
-    std::shared_ptr<detail::state> of_;
+    detail::shared_state of_;
     std::string prefix_;
 };
 
 // ---- one object
 
-/// The base of all objects: their segment and their handle. After the segment is freed, each call throws `closed`.
-/// After the object is destroyed, calls throw `not_found`; once another object has its handle, they are for that
-/// object, or throw `wrong_kind`.
+/// The base of all objects: their segment and their handle. After the segment is freed, or the object is moved from,
+/// each call throws `closed`. After the object is destroyed, calls throw `not_found`; once another object has its
+/// handle, they are for that object, or throw `wrong_kind`.
 class object {
   public:
     object(std::shared_ptr<detail::state> of, std::uint64_t handle) noexcept : of_(std::move(of)), handle_(handle) {}
@@ -1834,7 +1910,8 @@ class object {
     object(const segment &of, const key &at, std::uint32_t kind) : object(of.state_, of.existing(at, kind)) {}
 
     detail::spot spot() const noexcept { return {of_.get(), handle_}; }
-    const std::shared_ptr<detail::state> &state() const noexcept { return of_; }
+    const detail::shared_state &state() const noexcept { return of_; }
+    const detail::viewed_bytes &viewed() const noexcept { return of_->viewed; }
     measures measured() const {
         measures told{0, 0};
         spot().ask(zx_measure, &told.len, &told.places);
@@ -1842,7 +1919,7 @@ class object {
     }
 
   private:
-    std::shared_ptr<detail::state> of_;
+    detail::shared_state of_;
     std::uint64_t handle_;
 };
 
@@ -1865,7 +1942,7 @@ template <class T> class view {
     using value_type = std::remove_const_t<T>;
     using iterator = T *;
 
-    view(std::shared_ptr<detail::state> of, const zx_elements &there) : of_(std::move(of)), there_(there) {}
+    view(detail::shared_state of, const zx_elements &there) : of_(std::move(of)), there_(there) {}
 
     /// Tells whether the elements are still there: no call has changed the segment since, and none has saved what was
     /// written.
@@ -1893,7 +1970,7 @@ template <class T> class view {
         else return zx_is_current(of_->raw(), &there_) ? static_cast<T *>(there_.at) : nullptr;
     }
 
-    std::shared_ptr<detail::state> of_;
+    detail::shared_state of_;
     zx_elements there_;
 };
 
@@ -1969,6 +2046,9 @@ template <class Reader, class Access> class row : public Reader {
     using Reader::Reader;
 
     void set(std::uint64_t index, typename Access::passed_type value) const { Access::set(this->here(), index, value); }
+    /// Calls `change` with a copy of the element, and then writes the copy: `v.modify(0, [](item &of) { of.stock++; })`.
+    /// If `change` throws, writes nothing.
+    template <class Change> void modify(std::uint64_t index, Change change) const { (*this)[index].modify(change); }
     [[nodiscard]] reference operator[](std::uint64_t index) const { return {this->here(), index}; }
     [[nodiscard]] reference front() const { return (*this)[0]; }
     [[nodiscard]] reference back() const { return (*this)[this->size() - 1]; }
@@ -2002,6 +2082,7 @@ zx_elements elements_by(zx_code (*call)(zx_segment *, const zx_key *, zx_element
     of.ask(call, &there);
     if (there.kind != stored<T>::kind) throw wrong_kind();
     there.count = whole<T>(there.count);
+    of.of->viewed.add(there.at, there.count * sizeof(T));
     return there;
 }
 
@@ -2031,7 +2112,8 @@ template <class Of, class T> class const_values : public const_row<Of, values<T>
     [[nodiscard]] const T *data() const { return view().data(); }
 };
 
-template <class T> void write_row(const spot &of, std::uint64_t first, const slice<T> &values) {
+template <class T> void write_row(const spot &of, std::uint64_t first, slice<T> &values) {
+    of.of->viewed.detach(values);
     const zx_values passed = stored<T>::values(values.data(), values.size());
     of.ask(zx_write_elements, product(first, stored<T>::width), &passed);
 }
@@ -2159,6 +2241,7 @@ template <class T> class vector : public detail::row<const_vector<T>, detail::va
     }
     /// Appends values by one call: all of them or none.
     void append_range(slice<T> values) const {
+        this->viewed().detach(values);
         const zx_values passed = stored<T>::values(values.data(), values.size());
         this->spot().lengthen(values.size() * stored<T>::width, zx_extend, &passed);
     }
@@ -2184,6 +2267,7 @@ template <class T> class vector : public detail::row<const_vector<T>, detail::va
         return this->at_index(first.index());
     }
     void assign(slice<T> values) const {
+        this->viewed().detach(values);
         const zx_values passed = stored<T>::values(values.data(), values.size());
         this->spot().change(zx_assign, &passed);
     }
@@ -2270,8 +2354,14 @@ class string : public detail::row<const_string, detail::values<std::uint8_t>> {
   public:
     using row::row;
 
-    void assign(std::string_view text) const { spot().change(zx_assign_string, bytes_of(text), text.size()); }
-    void append(std::string_view text) const { spot().lengthen(text.size(), zx_append, bytes_of(text), text.size()); }
+    void assign(std::string_view text) const {
+        if (viewed().has(text)) return assign(std::string(text));
+        spot().change(zx_assign_string, bytes_of(text), text.size());
+    }
+    void append(std::string_view text) const {
+        if (viewed().has(text)) return append(std::string(text));
+        spot().lengthen(text.size(), zx_append, bytes_of(text), text.size());
+    }
     const string &operator+=(std::string_view text) const {
         append(text);
         return *this;
@@ -2299,7 +2389,10 @@ class strings : public detail::row<const_strings, detail::lines> {
     using row::row;
     using row::iterator, row::const_iterator, row::reference;
 
-    void push_back(std::string_view text) const { spot().change(zx_push_text, bytes_of(text), text.size()); }
+    void push_back(std::string_view text) const {
+        if (viewed().has(text)) return push_back(std::string_view(std::string(text)));
+        spot().change(zx_push_text, bytes_of(text), text.size());
+    }
     void push_back(const reference &element) const { push_back(std::string_view(element.value())); }
     /// Removes the last string, and returns it. Throws `out_of_range` for an empty vector.
     std::string pop_back() const {
@@ -2309,6 +2402,7 @@ class strings : public detail::row<const_strings, detail::lines> {
     }
     /// Inserts a string, or several, before `index`, which may be the size.
     void insert(std::uint64_t index, std::string_view text) const {
+        if (viewed().has(text)) return insert(index, std::string_view(std::string(text)));
         spot().change(zx_insert_text, index, bytes_of(text), text.size());
     }
     void insert(std::uint64_t index, const reference &element) const {
@@ -2348,7 +2442,10 @@ class strings : public detail::row<const_strings, detail::lines> {
         erase(first.index(), last.index());
         return at_index(first.index());
     }
-    void assign(const texts &list) const { spot().change(zx_assign_texts, list.data(), list.size()); }
+    void assign(const texts &list) const {
+        if (viewed().has(list)) return assign(list.copies());
+        spot().change(zx_assign_texts, list.data(), list.size());
+    }
     void reserve(std::uint64_t places) const { spot().change(zx_reserve, places); }
     void shrink_to_fit() const { spot().ask(zx_trim); }
     void clear() const { spot().ask(zx_clear); }
@@ -2675,8 +2772,8 @@ template <class T> class found_values : public found {
     [[nodiscard]] const array<T> &object() const noexcept { return values_; }
     [[nodiscard]] typename array<T>::reference operator[](std::uint64_t index) const { return values_[index]; }
     [[nodiscard]] typename array<T>::reference operator*() const { return values_[0]; }
-    /// Reads and writes a member of the first value.
-    [[nodiscard]] auto operator->() const { return values_[0].operator->(); }
+    /// Reads a member of the first value; `(*found).modify(change)` writes.
+    [[nodiscard]] detail::arrow<T> operator->() const { return values_[0].operator->(); }
 
   private:
     array<T> values_;
@@ -2709,15 +2806,18 @@ found_values<T> segment::find_or_construct(const key &at, value_of<T> value, std
 }
 template <class T>
 found_object<vector<T>> segment::find_or_construct_vector(const key &at, slice<T> values) {
+    state().viewed.detach(values);
     const zx_values passed = stored<T>::values(values.data(), values.size());
     const found had = found_or_made(zx_find_or_construct_vector, at, &passed);
     return {had, zaluxhoni::vector<T>(state_, had.handle)};
 }
 inline found_object<string> segment::find_or_construct_string(const key &at, std::string_view text) {
+    if (state().viewed.has(text)) return find_or_construct_string(at, std::string(text));
     const found had = found_or_made(zx_find_or_construct_string, at, bytes_of(text), text.size());
     return {had, zaluxhoni::string(state_, had.handle)};
 }
 inline found_object<strings> segment::find_or_construct_strings(const key &at, const texts &list) {
+    if (state().viewed.has(list)) return find_or_construct_strings(at, list.copies());
     const found had = found_or_made(zx_find_or_construct_strings, at, list.data(), list.size());
     return {had, zaluxhoni::strings(state_, had.handle)};
 }

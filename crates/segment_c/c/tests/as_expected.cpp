@@ -564,6 +564,76 @@ void views_without_a_copy() {
 #endif
 }
 
+/// A call copies what a view of its own segment gave: it may move the object, or make the segment longer, before it
+/// reads it.
+void views_that_are_passed() {
+    for (const bool grows : {false, true}) {
+        segment s = segment::create(grows ? 4096 : 1 << 20);
+        s.set_growing(grows);
+        const auto text = s.string("text");
+        text.assign("EURUSD-2026-DEC-CALL-01234567890");
+        std::string same = text;
+        for (int n = 0; n < 9; n++) {
+            text.append(text.view());
+            s.construct_string(key::anonymous(), "beside it");
+            same += same;
+        }
+        IS(text == same);
+        s.string("other").assign(text.view());
+        IS(s.string("other") == same);
+        text.assign(text.view().substr(7, 9000));
+        IS(text == same.substr(7, 9000));
+        text.assign(same);
+        const auto list = s.strings("list");
+        for (int n = 0; n < 20; n++) list.push_back(text.view().substr(0, 300));
+        list.insert(0, text.view().substr(1, 2000));
+        list[1] = text.view().substr(2, 3000);
+        IS(list[0] == same.substr(1, 2000) && list[1] == same.substr(2, 3000) && list[20] == same.substr(0, 300));
+        list.append_range({text.view().substr(3, 400), "a"});
+        IS(list[21] == same.substr(3, 400) && list.size() == 23);
+        list.assign({text.view().substr(0, 5000), text.view().substr(4, 5000)});
+        IS(list == (std::vector<std::string>{same.substr(0, 5000), same.substr(4, 5000)}));
+        s.construct_string("made", text.view());
+        s.construct_strings("all made", {text.view(), "b", text.view()});
+        IS(s.string("made") == same && s.strings("all made")[2] == same);
+        IS(*s.find_or_construct_string("found", text.view()) == same);
+        IS((*s.find_or_construct_strings("all found", {text.view()}))[0] == same);
+
+        const auto v = s.vector<i64>("v");
+        v.assign({1, 2, 3, 4});
+        std::vector<i64> numbers = v.to_vector();
+        for (int n = 0; n < 8; n++) {
+            v.append_range(v.cview());
+            s.construct<i64>(key::anonymous(), n);
+            numbers.insert(numbers.end(), numbers.begin(), numbers.end());
+        }
+        v.append_range({v.data(), 2});
+        numbers.insert(numbers.end(), {1, 2});
+        IS(v == numbers);
+        v.insert_range(1, v.view());
+        IS(v.size() == 2052 && v[1] == 1 && v[1026] == 2 && v[1027] == 2);
+        v.assign(numbers);
+        s.vector<i64>("w").assign(v.view());
+        s.construct_vector<i64>("x", v.view());
+        s.construct_array<i64>("y", {v.data(), v.size()});
+        IS(s.vector<i64>("w") == numbers && s.vector<i64>("x") == numbers && s.array<i64>("y") == numbers);
+        IS(*s.find_or_construct_vector<i64>("z", v.view()) == numbers);
+        v.write(1, {v.data(), 5});
+        s.array<i64>("y").write(2, {s.array<i64>("y").data(), 5});
+        s.write<i64>("z", 3, {s.vector<i64>("z").data(), 5});
+        IS(v[1] == 1 && v[5] == 1 && s.array<i64>("y")[2] == 1 && s.vector<i64>("z")[7] == 1);
+
+        const auto items = s.vector<item>("items");
+        items.push_back({1.5, 2, 3, 4});
+        for (int n = 0; n < 7; n++) {
+            items.append_range(items.view());
+            items.push_back(items.view()[0]);
+            items.insert(0, items.view()[items.size() - 1]);
+        }
+        IS(items.size() == 382 && items == std::vector<item>(382, {1.5, 2, 3, 4}) && s.sanity());
+    }
+}
+
 /// Iterators read and write elements where they are, until a call changes the segment; then they find the object anew.
 void iterators_in_place() {
     segment s = segment::create(65536);
@@ -703,12 +773,107 @@ void several_calls_as_one() {
     IS(s.save() == small);
     segment read = segment::open(s.save(), zaluxhoni::mode::read);
     THROWS(read_only, read.transaction([] {}));
-    segment gone = segment::create(1024);
-    THROWS(no_space, gone.transaction([&] {
-        gone.close();
-        throw zaluxhoni::no_space();
-    }));
-    IS(!gone.is_open());
+}
+
+/// A path of a file of this thread.
+std::string own_path(const char *name) {
+    return name + std::to_string(std::hash<std::thread::id>()(std::this_thread::get_id())) + ".seg";
+}
+
+/// Within a transaction nothing is saved and nothing is closed, and a segment that ends there is not kept by mistake.
+void transactions_and_files() {
+    const std::string path = own_path("step"), other = own_path("other");
+    segment (*const makes[])(const std::string &) = {
+        [](const std::string &) { return segment::create(65536); },
+        [](const std::string &at) { return segment::open_or_create_file(at, 65536); },
+        [](const std::string &at) { return segment::map_or_create_file(at, 65536); },
+        [](const std::string &at) { return segment::open_or_create_durable_file(at, 65536); }};
+    for (const auto make : makes) {
+        for (const std::string &each : {path, other, path + "-log"}) std::remove(each.c_str());
+        segment s = make(path);
+        const bool has_file = make != makes[0];
+        const auto v = s.vector<i64>("v");
+        v.push_back(1);
+        if (has_file) s.save_file();
+        const auto refuses = [&](const auto &call) {
+            THROWS(file_in_step, s.transaction([&] {
+                v.push_back(2);
+                call();
+            }));
+            IS(s.is_open() && v.size() == 1);
+        };
+        refuses([&] { s.close(); });
+        refuses([&] { s.close_file(); });
+        refuses([&] { s.save_file(); });
+        refuses([&] { s.save_file(other); });
+        refuses([&] { s.commit(); });
+        refuses([&] { s.flush_file(); });
+        refuses([&] { s.transaction([&] { s.close(); }); });
+        THROWS(file_missing, segment::open_file(other));
+        s.transaction([&] {
+            v.push_back(3);
+            THROWS(file_in_step, s.save_file());
+            THROWS(file_in_step, s.close());
+        });
+        IS(v.size() == 2);
+        try {
+            s.transaction([&] { s.close(); });
+        } catch (const zaluxhoni::file_in_step &error) {
+            const std::string said = error.what(), words = zaluxhoni::words(ZX_FILE_IN_STEP);
+            IS(said.find(has_file ? path + ": " + words : words) == 0 && error.code().value() == EBUSY);
+        }
+        // a segment that ends within its transaction, by a move, an assignment or its destructor
+        THROWS(closed, s.transaction([&] {
+            v.push_back(4);
+            s = segment::create(4096);
+        }));
+        IS(s.is_open() && s.size() == 4096);
+        THROWS(closed, v.size());
+        s = segment();
+        if (has_file) {
+            const segment kept = segment::open_file(path, zaluxhoni::mode::read);
+            IS(kept.vector<i64>("v").to_vector().size() <= 2 && kept.sanity());
+        }
+        auto *const deleted = new segment(make(path));
+        THROWS(closed, deleted->transaction([&] { delete deleted; }));
+        s = make(path);
+        segment later;
+        s.transaction([&] {
+            s.vector<i64>("w").push_back(1);
+            later = std::move(s);
+        });
+        IS(!s.is_open() && later.vector<i64>("w").size() == 1);
+        throws<int>(__LINE__, "transaction", [&] {
+            later.transaction([&] {
+                later.vector<i64>("w").push_back(2);
+                s = std::move(later);
+                throw 5;
+            });
+        });
+        IS(s.vector<i64>("w").size() == 1);
+        throws<int>(__LINE__, "transaction", [&] {
+            s.transaction([&] {
+                s = segment::create(1024);
+                throw 5;
+            });
+        });
+        IS(s.size() == 1024);
+        // `growing` makes longer the segment that it was called for
+        int times = 0;
+        THROWS(closed, s.growing([&] {
+            s = segment::create(2048);
+            if (times++ < 2) throw zaluxhoni::no_space();
+        }));
+        IS(times == 1 && s.size() == 2048);
+        auto *const grown = new segment(segment::create(1024));
+        THROWS(closed, grown->growing([&] {
+            delete grown;
+            throw zaluxhoni::no_space();
+        }));
+        s.close();
+        IS(!s.is_open());
+        for (const std::string &each : {path, path + "-log"}) std::remove(each.c_str());
+    }
 }
 
 void const_segments() {
@@ -996,45 +1161,137 @@ void maps_both_ways() {
 #endif
 }
 
-/// `->` writes a member of an element.
+/// `->` reads a member of an element; `modify`, and a view, write members.
 void members_that_are_written() {
     segment s = segment::create(65536);
     const auto items = s.vector<item>("items");
     items.assign({{0.5, 1, 2, 3}, {1.5, 4, 5, 6}});
-    items[0]->price = 2.5;
-    items[1]->stock += 10;
-    items.begin()->shelf = 7;
-    IS(items[0].value() == (item{2.5, 1, 2, 7}) && items[1].value() == (item{1.5, 4, 15, 6}));
-    auto last = items.end();
-    (--last)->article++;
-    (items.begin() + 1)->price *= 2;
-    items.back()->shelf = items.front()->shelf;
-    IS(items[1].value() == (item{3, 5, 15, 7}));
+    items.modify(0, [](item &of) { of.price = 2.5, of.shelf = 7; });
+    items[1].modify([](item &of) { of.stock += 10, of.article++; });
+    (*items.begin()).modify([](item &of) { of.article = of.stock = 9; });
+    IS(items[0].value() == (item{2.5, 9, 9, 7}) && items[1].value() == (item{1.5, 5, 15, 6}));
+    items.back().modify([&](item &of) { std::swap(of.stock, of.shelf), of.price = items[0]->price; });
+    IS(items[1].value() == (item{2.5, 5, 6, 15}) && (items.end() - 1)->shelf == 15 && items.begin()->stock == 9);
+    item &first = items.view()[0];
+    first.stock++, first.shelf++;
+    IS(items[0].value() == (item{2.5, 9, 10, 8}));
     const auto two = s.array<item>(zaluxhoni::key::by_handle(s.construct<item>("two", {9, 8, 7, 6}, 2)));
-    two[1]->article = 5;
+    two.modify(1, [](item &of) { of.article = 5; });
     IS(two[0]->article == 8 && two[1]->article == 5);
-    THROWS(out_of_range, items[2]->price = 1);
+    THROWS(out_of_range, items.modify(2, [](item &of) { of.price = 1; }));
     IS(items.size() == 2);
-    // the right side comes first, and a vector that moves meanwhile gets what is written
-    items[0]->price = (items.append_range(std::vector<item>(100, item{})), 8.5);
+    // what throws writes nothing
+    throws<int>(__LINE__, "modify", [&] {
+        items.modify(0, [](item &of) {
+            of.price = 7;
+            throw 5;
+        });
+    });
+    IS(items[0]->price == 2.5);
+    // a vector that moves meanwhile gets what is written
+    items.modify(0, [&](item &of) {
+        items.append_range(std::vector<item>(100, item{}));
+        of.price = 8.5;
+    });
     IS(items[0]->price == 8.5 && items.size() == 102);
-    // in a segment that is open for reading, `->` reads
-    const std::vector<u8> image = s.save();
-    segment reader = segment::open(image, zaluxhoni::mode::read);
+    segment reader = segment::open(s.save(), zaluxhoni::mode::read);
     const auto read = reader.vector<item>("items");
-    IS(read[0]->price == 8.5 && read.begin()->shelf == 7);
-    THROWS(read_only, read[0]->price = 1);
-    THROWS(read_only, read.begin()->price = 1);
-    // another error goes on
-    try {
-        const auto fails = []() -> double { throw 5; };
-        const auto both = [](double first, double second) { return first + second; };
-        IS(both(items[0]->price += 1, items[1]->price = 4) == 13.5);
-        static_cast<void>(both(read[0]->price, fails()));
-        IS(false);
-    } catch (int) {
-        IS(items[0]->price == 9.5);
-    }
+    IS(read[0]->price == 8.5 && read.begin()->shelf == 8);
+    THROWS(read_only, read.modify(0, [](item &of) { of.price = 1; }));
+    const auto list = s.strings("list");
+    list.assign({"a", "b"});
+    list.modify(1, [](std::string &of) { of.append(3, 'c'); });
+    IS(list == (std::vector<std::string>{"a", "bccc"}));
+    const auto m = s.map<i32, i64>("m");
+    m[3] = 4;
+    m[3].modify([](i64 &of) { of = of * of; });
+    IS(m.get(3) == 16);
+    THROWS(absent, m[4].modify([](i64 &of) { of++; }));
+    IS(!m.contains(4));
+}
+
+/// What was moved from is closed, whatever it is, and can be assigned to.
+void moved_from() {
+    segment s = segment::create(8192);
+    auto v = s.vector<i64>("v");
+    auto items = s.vector<item>("items");
+    auto m = s.map<i64, i64>("m");
+    auto text = s.string("t");
+    auto list = s.strings("l");
+    auto group = s.group("");
+    s.construct<i64>("n", 7);
+    auto n = s.array<i64>("n");
+    auto found = s.find_or_construct<i64>("n", 0);
+    v.assign({1, 2});
+    items.push_back({1, 2, 3, 4});
+    m.put(1, 10);
+    text.assign("text");
+    list.assign({"a", "b"});
+    IS(v[0] == 1 && items[0]->article == 2 && text[0] == 't' && list[1] == "b" && list.size() == 2 && group.size() == 6);
+    auto there = v.cview();
+    const auto w = std::move(v);
+    const auto others = std::move(items);
+    const auto q = std::move(m);
+    const auto words = std::move(text);
+    const auto rest = std::move(list);
+    const auto all = std::move(group);
+    const auto number = std::move(n);
+    const auto had = std::move(found);
+    const auto seen = std::move(there);
+    // NOLINTBEGIN(bugprone-use-after-move): that is what is tried
+    THROWS(closed, v.size());
+    THROWS(closed, v.push_back(3));
+    THROWS(closed, v[0].value());
+    THROWS(closed, v[0] = 5);
+    THROWS(closed, v.end());
+    THROWS(closed, v.to_vector());
+    THROWS(closed, v.view());
+    THROWS(closed, v.append_range(w.cview()));
+    THROWS(closed, items.back());
+    THROWS(closed, items[0]->price);
+    THROWS(closed, items.push_back({}));
+    THROWS(closed, m.contains(1));
+    THROWS(closed, m.put(1, 1));
+    THROWS(closed, m[1] += 1);
+    THROWS(closed, m.begin());
+    THROWS(closed, m.erase(1));
+    THROWS(closed, text.str());
+    THROWS(closed, text.append("x"));
+    THROWS(closed, text.view());
+    THROWS(closed, text[0].value());
+    THROWS(closed, list[1].value());
+    THROWS(closed, list.size());
+    THROWS(closed, list.push_back("x"));
+    THROWS(closed, list[0] = "x");
+    THROWS(closed, list.to_vector());
+    THROWS(closed, group.size());
+    THROWS(closed, n[0].value());
+    THROWS(closed, n.measure());
+    THROWS(closed, (*found).value());
+    IS(!there.is_current());
+    throws<zaluxhoni::outdated>(__LINE__, "outdated", [&] { return there[0]; });
+    segment t = std::move(s);
+    THROWS(closed, s.size());
+    THROWS(closed, s.vector<i64>("v"));
+    THROWS(closed, s.transaction([] {}));
+    s.close();
+    IS(!s.is_open());
+    // NOLINTEND(bugprone-use-after-move)
+    IS(w.size() == 2 && others[0]->stock == 3 && q.get(1) == 10 && words == "text" && rest[1] == "b");
+    IS(all.size() == 6 && number[0] == 7 && *had == 7 && seen[1] == 2);
+    v = w;
+    list = rest;
+    text = t.string("t");
+    m = t.map<i64, i64>("m");
+    IS(v[1] == 2 && list[0] == "a" && list.size() == 2 && text == "text" && m.get(1) == 10);
+    // a copy of what was moved from is closed too, and what was moved from outlives the segment
+    auto gone = std::move(list);
+    const auto copy = list;
+    THROWS(closed, copy[0].value());
+    gone = t.strings("l");
+    t = segment();
+    THROWS(closed, list[0].value());
+    THROWS(closed, gone[0].value());
 }
 
 /// `find_or_construct` gives the object.
@@ -1046,7 +1303,8 @@ void objects_found_or_made() {
     const auto row = s.find_or_construct<i32>("row", 3, 4);
     row[2] = 9;
     IS(row.count == 4 && row.object().size() == 4 && row.object()[2] == 9 && row.handle == row.object().handle());
-    s.find_or_construct<item>("item", item{1, 2, 3, 4})->stock = 77;
+    IS(s.find_or_construct<item>("item", item{1, 2, 3, 4})->stock == 3);
+    (*s.find_or_construct<item>("item", item{})).modify([](item &of) { of.stock = 77; });
     IS(s.find_or_construct<item>("item", item{})->stock == 77 && s.find_or_construct<item>("item", item{}).count == 1);
     s.find_or_construct_vector<i64>("queue")->push_back(1);
     (*s.find_or_construct_vector<i64>("queue")).push_back(2);
@@ -1131,9 +1389,10 @@ void the_longest_segment() {
 void every_case() {
     void (*const cases[])() = {an_array_that_is_made_anew, numbers_that_do_not_fit, truths, texts_that_are_stored,
                                elements, texts, FORMATS algorithms, bulk, own_types, views_without_a_copy,
-                               iterators_in_place, iterators_and_modes, several_calls_as_one, const_segments, groups,
-                               segments_that_grow, errors, sizes_that_do_not_fit, swapped, projected,
-                               members_as_in_std, maps_both_ways, members_that_are_written, objects_found_or_made,
+                               views_that_are_passed, iterators_in_place, iterators_and_modes, several_calls_as_one,
+                               transactions_and_files, const_segments, groups, segments_that_grow, errors,
+                               sizes_that_do_not_fit, swapped, projected, members_as_in_std, maps_both_ways,
+                               members_that_are_written, moved_from, objects_found_or_made,
                                storage_that_cannot_double, an_open_that_waits};
     for (void (*each)() : cases) {
         try {

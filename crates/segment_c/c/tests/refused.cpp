@@ -9,6 +9,7 @@ using u8 = std::uint8_t;
 struct point {
     int x, y;
 };
+[[maybe_unused]] static void bump(int &of) { of++; }
 struct leads {
     std::string to;
 };
@@ -120,6 +121,32 @@ struct leads {
     v.size();
 #else
     static_cast<void>(v.size());
+#endif
+    const zaluxhoni::vector<point> points = s.vector<point>("points");
+#if CASE == 22
+    points[0]->x = 5;
+#else
+    points.modify(0, [](point &of) { of.x = 5; });
+#endif
+#if CASE == 23
+    points[0]->x++, points[0]->y++;
+#else
+    points.view()[0].x++, points.view()[0].y++;
+#endif
+#if CASE == 24
+    points.begin()->x = points[0]->y = 7;
+#else
+    points.set(0, {points.begin()->x, points[0]->y});
+#endif
+#if CASE == 25
+    std::swap(points[0]->x, points[0]->y);
+#else
+    points[0].modify([](point &of) { std::swap(of.x, of.y); });
+#endif
+#if CASE == 26
+    bump(s.find_or_construct<point>("p", point{1, 2})->x);
+#else
+    (*s.find_or_construct<point>("p", point{1, 2})).modify([](point &of) { bump(of.x); });
 #endif
     static_cast<void>(kept);
 }

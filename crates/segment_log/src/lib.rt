@@ -13,6 +13,7 @@ mod fingerprints;
 mod log_disk;
 mod log_kinds;
 mod payloads;
+mod pending_images;
 mod records;
 mod recovery;
 mod replaying;
@@ -28,6 +29,7 @@ pub use log_kinds::{
     gates_begin_logs, kinds_tell_records, log_kind, named_logs_are_ours, no_gate_is_foreign,
 };
 pub use payloads::{begin_payload, changes, edit_head, fill, push_edit};
+pub use pending_images::{completes, pending_head, pending_image, pending_tail, saves_survive};
 pub use records::{GATE_LEN, MAX_LOG_LEN, next_record, open_gate, record_body, shut_gate};
 pub use recovery::{RecoverError, RecoveredImage, RecoveredWithin, recover, recover_within};
 pub use replaying::{is_ajar, most_len};

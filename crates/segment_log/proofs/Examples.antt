@@ -1,6 +1,8 @@
--- Small files under the name of a log, and what each is.
+-- Small files under the name of a log, and what each is; and a small pending image.
 use Rattle.std.proofs.Common.{◌≡◌, inl, inr, ℕ, List, [], ◌∷◌, ◌++◌, length, get_or, refl, ap, arith}
 use Rattle.segment_log.specs.Records.{number_of, number_bytes, shut_gate, zeros}
+use Rattle.segment_log.specs.Fingerprints.{fingerprint, page_mark}
+use Rattle.segment_log.specs.PendingImages.{pending_text}
 use Rattle.segment_log.specs.Tags.{tag_text}
 use Rattle.segment_log.specs.LogKindLaws.{IsKind}
 use Rattle.segment_log.specs.declared.log_kinds.LogKind.TheVariants.{Foreign, Empty, Records}
@@ -65,3 +67,10 @@ old_log_records = (
   },
   record { is_open = refl; whole = omega arith },
 )
+
+-- the pending image of the two bytes "hi", whose fingerprint is 8,675,450,074,786,118,001
+hi_pending : pending_text (104 ∷ 105 ∷ [])
+    ≡ 122 ∷ 97 ∷ 108 ∷ 117 ∷ 120 ∷ 104 ∷ 111 ∷ 110 ∷ 105 ∷ 32 ∷ 115 ∷ 97 ∷ 118 ∷ 101 ∷ 0 ∷ 1
+    ∷ 104 ∷ 105 ∷ 2 ∷ 0 ∷ 0 ∷ 0 ∷ 0 ∷ 0 ∷ 0 ∷ 0 ∷ 113 ∷ 57 ∷ 67 ∷ 230 ∷ 224 ∷ 99 ∷ 101 ∷ 120 ∷ []
+unfolding pending_text number_bytes fingerprint page_mark number_of
+hi_pending = refl

@@ -12,3 +12,4 @@ pub mod Histories
 pub mod Committing
 pub mod CommittedImages
 pub mod Recoveries
+pub mod PendingImages

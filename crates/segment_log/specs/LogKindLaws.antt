@@ -1,6 +1,6 @@
 -- What holds of the kinds of logs.
 use Rattle.std.specs.Prelude.{◌≡◌, ◌≢◌, ◌⊎◌, ◌↔◌, ◌<◌, ◌≤◌, ◌^◌, ℕ, List, [], ◌++◌, length, take, drop, get_or, None}
-use Rattle.segment_log.specs.Crashes.{LoggedFile}
+use Rattle.segment_log.specs.Crashes.{LoggedFile, TornWrite}
 use Rattle.segment_log.specs.Events.{leaves_after, seen_in_the_end}
 use Rattle.segment_log.specs.Laws.{CommitOutcome, Committed, commit_events}
 use Rattle.segment_log.specs.Records.{next_at, open_gate, record_body, recovered, shut_gate, zeros, EndsShut}
@@ -58,6 +58,11 @@ GatesBeginLogs = ((rest : List ℕ) → BeginLogs rest) × IsKind Empty shut_gat
 -- Each log with the name is ours.
 abbrev pub NamedLogsAreOurs : Type 0
 NamedLogsAreOurs = (log : List ℕ) → IsNamedLog log → IsOurs (take 4144 log) (length log)
+
+-- A log keeps its name after a write behind its first gate that a crash cuts short, as that of a later gate.
+abbrev pub WritesBehindKeepName : Type 0
+WritesBehindKeepName = (at n : ℕ) (old new : List ℕ) → 4096 ≤ at → TornWrite at n old new → IsNamedLog old
+    → IsNamedLog new
 
 -- A log keeps its name at each moment of a commit at which its first gate is not written.
 abbrev pub CommitKeepsName : Type 0

@@ -5,6 +5,7 @@ ghost use Rattle.segment_log.specs.LogKinds.{BeginsRecord, HasMagic, HasNothingB
 ghost use Rattle.segment_log.specs.LogKinds.{IsOurs, IsUnnamedLog, TellsKind};
 ghost use Rattle.segment_log.specs.LogKindLaws.{CommitKeepsName, CommittedHasRecords, GateWritesKeepName};
 ghost use Rattle.segment_log.specs.LogKindLaws.{GatesBeginLogs, KindsTellRecords, NamedLogsAreOurs, NoGateIsForeign};
+ghost use Rattle.segment_log.specs.LogKindLaws.{WritesBehindKeepName};
 ghost use Rattle.segment_log.specs.Records.{zeros};
 
 use crate::records::{GATE_LEN, MAGIC, number_of};
@@ -134,6 +135,11 @@ pub fn gates_begin_logs()
 /// States that each log with the name of the format is a log of this crate.
 pub fn named_logs_are_ours()
     ensures { NamedLogsAreOurs }
+{}
+
+/// States that a log keeps its name after a write behind its first gate that a crash cuts short.
+pub fn writes_behind_keep_name()
+    ensures { WritesBehindKeepName }
 {}
 
 /// States that a log keeps its name after a crash at any moment of a commit at which its first gate is not written.

@@ -12,7 +12,7 @@ use Rattle.segment_log.specs.Events.{Wrote, leaves, seen_after, seen_in_the_end}
 use Rattle.segment_log.specs.Laws.{CommitOutcome, Unwritten, Unsynced, Unmarked, Unsure, Committed, commit_events}
 use Rattle.segment_log.specs.LogKinds.{HasMagic}
 use Rattle.segment_log.specs.LogKindLaws.{CommitKeepsName, CommittedHasRecords, GateWritesKeepName}
-use Rattle.segment_log.specs.LogKindLaws.{GatesBeginLogs, IsKind, IsNamedLog, NamedLogsAreOurs}
+use Rattle.segment_log.specs.LogKindLaws.{GatesBeginLogs, IsKind, IsNamedLog, NamedLogsAreOurs, WritesBehindKeepName}
 use Rattle.segment_log.specs.Records.{EndsShut, magic, next_at, next_behind, number_bytes, open_gate}
 use Rattle.segment_log.specs.Records.{record_body, recovered, recovered_at, shut_gate, zeros}
 use Rattle.segment_log.specs.declared.log_kinds.LogKind.TheVariants.{Empty, Records}
@@ -118,9 +118,9 @@ same_gate old new named same long = record {
   name = same_name new old same ∙ named.name;
 }
 
--- a write behind the first gate, that a crash cuts short
-torn_behind : (at n : ℕ) (old new : List ℕ) → 4096 ≤ at → TornWrite at n old new → IsNamedLog old → IsNamedLog new
-torn_behind at n old new behind torn named =
+-- the law of the writes behind the first gate
+pub writes_behind_keep_name : WritesBehindKeepName
+writes_behind_keep_name at n old new behind torn named =
     same_gate old new named (take_less 4096 at new old behind torn.before)
     (omega (arith, torn.no_shorter, named.gate))
 
@@ -228,7 +228,8 @@ module _ (files : LoggedFile) (end : ℕ) (payload : List ℕ) (named : IsNamedL
 
   torn_step : (at n : ℕ) (old : LoggedFile → Type 0) → 4096 ≤ at → ((d : LoggedFile) → old d → P d)
       → (c : LoggedFile) → TornFrom at n old c → P c
-  torn_step at n old behind was c from = torn_behind at n from.0.log c.log behind from.2.torn (was from.0 from.1)
+  torn_step at n old behind was c from =
+      writes_behind_keep_name at n from.0.log c.log behind from.2.torn (was from.0 from.1)
 
   abbrev body_may : LoggedFile → Type 0
   body_may = TornFrom (end + 4096) (length (record_body payload)) start

@@ -19,16 +19,16 @@ NewModeIsWidest = (mode : ℕ) (has_owner has_group : Bool) (other_mode : ℕ)
     → ModeNarrows mode Absent has_owner has_group other_mode
     → CoversMode (new_rights mode Absent has_owner has_group).mode other_mode
 
--- A log with the owner, the group and the rights of its file counts, in every directory and for every caller.
+-- A log with the owner, the group and the rights of its file counts, in every folder and for every caller.
 abbrev pub LogOfOwnerCounts : Type 0
-LogOfOwnerCounts = (file log directory : Ownership) (caller : ℕ) → log.owner ≡ file.owner → log.group ≡ file.group
-    → log.mode ≡ log_mode file.mode → LogCounts file log directory caller
+LogOfOwnerCounts = (file log folder : Ownership) (caller : ℕ) → log.owner ≡ file.owner → log.group ≡ file.group
+    → log.mode ≡ log_mode file.mode → LogCounts file log folder caller
 
 -- A log of somebody who is trusted counts with the rights that it gets, whether it has the owner and the group of the
 -- file or not.
 abbrev pub NarrowedLogCounts : Type 0
-NarrowedLogCounts = (file log directory : Ownership) (caller : ℕ) (has_owner has_group : Bool)
+NarrowedLogCounts = (file log folder : Ownership) (caller : ℕ) (has_owner has_group : Bool)
     → IsOfTrusted file log caller → (has_owner ≡ true → log.owner ≡ file.owner)
     → (has_group ≡ true → log.group ≡ file.group)
     → log.mode ≡ (new_rights (log_mode file.mode) Absent has_owner has_group).mode
-    → LogCounts file log directory caller
+    → LogCounts file log folder caller

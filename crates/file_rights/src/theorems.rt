@@ -1,14 +1,14 @@
-//! What holds of each new file, and of each log that is made with the rights of its file. These functions do nothing.
+//! Laws about new files and about logs with the rights of their files. These functions do nothing.
 ghost use Rattle.file_rights.specs.Laws.{LogOfOwnerCounts, NarrowedLogCounts, NewModeIsWidest};
 
-/// States that nothing is narrowed without need: of a file without an access list, no other mode that never widens
-/// grants the group or the others more than `narrowed` does.
+/// States that `narrowed` takes no right without need: if the old file has no access list, no other mode that never
+/// widens grants the group or the others more.
 pub fn new_mode_is_widest()
     ensures { NewModeIsWidest }
 {}
 
 /// States that a log counts whose owner and group are the file's and whose mode is `log_mode` of the file's, in every
-/// directory and for every caller.
+/// folder and for every caller.
 pub fn log_of_owner_counts()
     ensures { LogOfOwnerCounts }
 {}

@@ -10,7 +10,7 @@ use Rattle.file_rights.proofs.narrowing.Narrow.{mode_narrows}
 
 -- a log with the rights that it gets counts
 pub narrowed_log_counts : NarrowedLogCounts
-narrowed_log_counts file log directory caller has_owner has_group trusted owners groups modes = record {
+narrowed_log_counts file log folder caller has_owner has_group trusted owners groups modes = record {
   maker = inl trusted;
   writers = λ user not_owner not_log may.
       let grants = (grants_as_mode file.mode (log_mode file.mode) refl).write user file.owner file.group in
@@ -22,7 +22,7 @@ narrowed_log_counts file log directory caller has_owner has_group trusted owners
 
 -- a log with the owner, the group and the rights of its file counts
 pub log_of_owner_counts : LogOfOwnerCounts
-log_of_owner_counts file log directory caller owners groups modes = record {
+log_of_owner_counts file log folder caller owners groups modes = record {
   maker = inl (inl owners);
   writers = λ user not_owner not_log may.
       let grants = (grants_as_mode file.mode log.mode modes).write user file.owner file.group in

@@ -12,4 +12,6 @@ mod theorems;
 
 pub use log_rights::{Ownership, log_counts, log_mode};
 pub use narrowing::{AccessList, NewRights, narrowed};
-pub use theorems::{log_of_owner_counts, narrowed_log_counts, new_mode_is_widest};
+pub use theorems::{
+    listed_file_keeps_writers, log_of_owner_counts, narrowed_log_counts, new_mode_is_widest,
+};

@@ -1,10 +1,10 @@
 -- Logs that are made with the rights of their file.
-use Rattle.std.proofs.Common.{◌≡◌, inl, ℕ, refl, sym, ◌∙◌, None}
+use Rattle.std.proofs.Common.{◌≡◌, inl, ℕ, refl, sym, ◌∙◌, None, true}
 use Rattle.file_rights.specs.declared.narrowing.AccessList.TheVariants.{Absent}
 use Rattle.file_rights.specs.Rights.{to_write}
 use Rattle.file_rights.specs.Access.{may_access}
 use Rattle.file_rights.specs.LogRights.{file_of, log_mode}
-use Rattle.file_rights.specs.Laws.{LogOfOwnerCounts, NarrowedLogCounts}
+use Rattle.file_rights.specs.Laws.{listed_mode, ListedFileKeepsWriters, LogOfOwnerCounts, NarrowedLogCounts}
 use Rattle.file_rights.proofs.log_rights.Granting.{grants_as_mode}
 use Rattle.file_rights.proofs.narrowing.Narrow.{mode_narrows}
 
@@ -31,3 +31,9 @@ log_of_owner_counts file log folder caller owners groups modes = record {
       λ i. may_access user (record { owner = owners i; group = groups i; mode = log.mode; list = None }) to_write in
       grants.0 (sym same ∙ may);
 }
+
+-- beside a file with a list, a log without a list is compared with the mode that a new file would get without the list
+pub listed_file_keeps_writers : ListedFileKeepsWriters
+listed_file_keeps_writers file list log lists keeps user not_owner not_log may =
+    mode_narrows file.mode list true true (listed_mode file.mode list) refl file file.owner file.group refl lists
+    (λ same. refl) (λ same. refl) user to_write not_owner (keeps user not_owner not_log may)

@@ -156,7 +156,7 @@ readable = owned 1 10 (octal 6 4 4)
 abbrev shared : Ownership
 shared = owned 1 10 (octal 6 6 4)
 
--- a directory as /tmp is, with the sticky bit; one of user 1; and one that group 10 shares
+-- a folder as /tmp is, with the sticky bit; one of user 1; and one that group 10 shares
 abbrev sticky : Ownership
 sticky = owned 0 0 (512 + octal 7 7 7)
 
@@ -166,7 +166,7 @@ private = owned 1 10 (octal 7 5 5)
 abbrev common : Ownership
 common = owned 1 10 (octal 7 7 5)
 
--- the owner's log counts, also in a directory for all; so does root's
+-- the owner's log counts, also in a folder for all; so does root's
 own_log : log_counts readable (owned 1 10 (octal 6 4 4)) sticky 3 ≡ true
 own_log = refl
 
@@ -180,12 +180,12 @@ log_of_a_reader = refl
 own_log_of_a_reader : log_counts readable (owned 2 20 (octal 6 4 4)) sticky 2 ≡ true
 own_log_of_a_reader = refl
 
--- a log that a member of the group made counts if the group may write the file and nobody else the directory
+-- a log that a member of the group made counts if the group may write the file and nobody else the folder
 log_of_a_member : log_counts shared (owned 2 10 (octal 6 6 4)) common 3 ≡ true
 log_of_a_member = refl
 
-log_of_a_member_in_a_sticky_directory : log_counts shared (owned 2 10 (octal 6 6 4)) sticky 3 ≡ false
-log_of_a_member_in_a_sticky_directory = refl
+log_of_a_member_in_a_sticky_folder : log_counts shared (owned 2 10 (octal 6 6 4)) sticky 3 ≡ false
+log_of_a_member_in_a_sticky_folder = refl
 
 log_of_a_member_who_reads : log_counts readable (owned 2 10 (octal 6 4 4)) common 3 ≡ false
 log_of_a_member_who_reads = refl

@@ -15,41 +15,41 @@ file_of of = record { owner = of.owner; group = of.group; mode = of.mode; list =
 abbrev pub IsOfTrusted : Ownership → Ownership → ℕ → Type 0
 IsOfTrusted file log caller = (log.owner ≡ file.owner) ⊎ ((log.owner ≡ caller) ⊎ (log.owner ≡ 0))
 
--- who may write the directory owns it, or is in the group
+-- who may write the folder owns it, or is in the group
 abbrev pub IsClosedTo : ℕ → Ownership → Type 0
-IsClosedTo group directory = (user : User) → user.uid ≢ directory.owner → MayWrite user (file_of directory)
+IsClosedTo group folder = (user : User) → user.uid ≢ folder.owner → MayWrite user (file_of folder)
     → user.is_in group ≡ true
 
--- the log is of the group that may write the file, and nobody else may have made it in the directory
-pub record IsOfWriters (file log directory : Ownership) : Type 0 where
+-- the log is of the group that may write the file, and nobody else may have made it in the folder
+pub record IsOfWriters (file log folder : Ownership) : Type 0 where
   pub writes : (classes_of file.mode).group.write ≡ true
   pub group : log.group ≡ file.group
-  pub closed : IsClosedTo file.group directory
+  pub closed : IsClosedTo file.group folder
 
 -- Nobody but their owners may write the log who may not write the file.
 abbrev pub KeepsWriters : Ownership → Ownership → Type 0
 KeepsWriters file log = (user : User) → user.uid ≢ file.owner → user.uid ≢ log.owner
     → MayWrite user (file_of log) → MayWrite user (file_of file)
 
--- a log beside a file in a directory counts for a caller
-pub record LogCounts (file log directory : Ownership) (caller : ℕ) : Type 0 where
-  pub maker : IsOfTrusted file log caller ⊎ IsOfWriters file log directory
+-- a log beside a file in a folder counts for a caller
+pub record LogCounts (file log folder : Ownership) (caller : ℕ) : Type 0 where
+  pub maker : IsOfTrusted file log caller ⊎ IsOfWriters file log folder
   pub writers : KeepsWriters file log
 
 -- the owner of the log is trusted, as it is computed
 abbrev pub is_of_trusted : Ownership → Ownership → ℕ → Bool
 is_of_trusted file log caller = (log.owner == file.owner) || ((log.owner == caller) || (log.owner == 0))
 
--- only the owner and a group may write the directory, as it is computed
+-- only the owner and a group may write the folder, as it is computed
 abbrev pub is_closed_to : ℕ → Ownership → Bool
-is_closed_to group directory =
-    not (classes_of directory.mode).other.write
-    && ((directory.group == group) || not (classes_of directory.mode).group.write)
+is_closed_to group folder =
+    not (classes_of folder.mode).other.write
+    && ((folder.group == group) || not (classes_of folder.mode).group.write)
 
 -- the log is of the group that may write the file, as it is computed
 abbrev pub is_of_writers : Ownership → Ownership → Ownership → Bool
-is_of_writers file log directory =
-    (classes_of file.mode).group.write && ((log.group == file.group) && is_closed_to file.group directory)
+is_of_writers file log folder =
+    (classes_of file.mode).group.write && ((log.group == file.group) && is_closed_to file.group folder)
 
 -- nobody may write the log who may not write the file, by the bits to write of both and whether the group is the same
 abbrev pub keep_writers : Bool → Bool → Bool → Bool → Bool → Bool
@@ -64,8 +64,8 @@ keeps_writers file log =
 
 -- a log counts, as it is computed
 abbrev pub log_counts : Ownership → Ownership → Ownership → ℕ → Bool
-log_counts file log directory caller =
-    (is_of_trusted file log caller || is_of_writers file log directory) && keeps_writers file log
+log_counts file log folder caller =
+    (is_of_trusted file log caller || is_of_writers file log folder) && keeps_writers file log
 
 -- rights without the one to execute
 abbrev pub unexecuted : Rights → Rights

@@ -1,4 +1,4 @@
-//! Access lists, as the system writes them: a version in four bytes, then eight bytes for each entry.
+//! Access lists, in the bytes of the system: a version in four bytes, then eight bytes for each entry.
 ghost use Rattle.std.specs.Prelude.{◌≡◌, ◌<◌, [], ◌∷◌, length, IfSome, MatchOption, Some, None};
 ghost use Rattle.file_rights.specs.AccessLists.{common_within, entries_of, first_rights, list_of};
 
@@ -7,16 +7,16 @@ use crate::rights::Rights;
 /// An entry of an access list.
 #[derive(Clone, Copy)]
 pub struct ListEntry {
-    /// Whom the entry is for: 1 is the owner, 2 a named user, 4 the owning group, 8 a named group, 16 the mask, 32 the
-    /// others.
+    /// The user or group of the entry: 1 is the owner, 2 a named user, 4 the owning group, 8 a named group, 16 the
+    /// mask, 32 the others.
     pub tag: u32,
-    /// What the entry grants.
+    /// The rights of the entry.
     pub rights: Rights,
     /// The number of the named user or group.
     pub number: u32,
 }
 
-/// Returns the bytes of the entries of a list, or nothing if the bytes are none of a list of version 2.
+/// Returns the bytes behind the version, or `None` if the bytes are not a list of version 2.
 pub(crate) fn entry_bytes(bytes: &[u8]) -> Option<&[u8]>
     ensures { MatchOption result
         (list_of bytes.now ≡ None)
@@ -28,7 +28,7 @@ pub(crate) fn entry_bytes(bytes: &[u8]) -> Option<&[u8]>
     }
 }
 
-/// Returns the first entry, and the bytes behind it.
+/// Returns the first entry and the bytes behind it, or `None` if there are fewer than eight bytes.
 fn next_entry(bytes: &[u8]) -> Option<(ListEntry, &[u8])>
     ensures value { MatchOption result
         (entries_of bytes.now ≡ [])
@@ -51,7 +51,7 @@ fn next_entry(bytes: &[u8]) -> Option<(ListEntry, &[u8])>
     }
 }
 
-/// Returns the rights in the first entry with a tag.
+/// Returns the rights of the first entry with a tag, or `None` if no entry has the tag.
 pub(crate) fn first_rights(bytes: &[u8], tag: u32) -> Option<Rights>
     ensures { result ≡ first_rights tag (entries_of bytes.now) }
 {
@@ -65,7 +65,7 @@ pub(crate) fn first_rights(bytes: &[u8], tag: u32) -> Option<Rights>
     None
 }
 
-/// Returns the rights that each entry with a tag grants within a mask.
+/// Returns the rights that every entry with a tag has within a mask.
 pub(crate) fn common_within(bytes: &[u8], tag: u32, mask: Rights) -> Rights
     ensures { result ≡ common_within tag mask (entries_of bytes.now) }
 {

@@ -1,17 +1,17 @@
 //! The three classes of a mode: the owner, the group and the others.
-ghost use Rattle.std.specs.Prelude.{◌≡◌};
+ghost use Rattle.std.specs.Prelude.{◌≡◌, ◌<◌};
 ghost use Rattle.file_rights.specs.Modes.{classes_of, mode_of};
 
 use crate::rights::Rights;
 
-/// What the owner, the group and the others may do with a file.
+/// The rights of the three classes of a mode.
 #[derive(Clone, Copy)]
 pub struct Classes {
-    /// What the owner may do.
+    /// The rights of the owner.
     pub owner: Rights,
-    /// What the members of the group may do.
+    /// The rights of the members of the group.
     pub group: Rights,
-    /// What all others may do.
+    /// The rights of all others.
     pub other: Rights,
 }
 
@@ -29,7 +29,8 @@ impl Classes {
 
     /// Returns the mode with these classes.
     pub(crate) fn mode(self) -> u32
-        ensures { result ≡ mode_of self }
+        ensures value { result ≡ mode_of self }
+        ensures upper { result < 512 }
     {
         self.owner.bits() * 64 + self.group.bits() * 8 + self.other.bits()
     }

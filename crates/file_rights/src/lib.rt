@@ -1,6 +1,6 @@
-//! The rights of files that are made beside others: what a new file may grant that takes the place of an old one,
-//! whether a log beside a file counts, and what rights a log gets. The functions compute over numbers, as the system
-//! gives them, and ask the system for nothing.
+//! The rights of a file that is created beside another: `narrowed` computes the mode of a new file that replaces an old
+//! file, `log_mode` the mode of a log, and `log_counts` decides whether a log counts. The functions take the numbers
+//! that the system returns. They make no system call and allocate nothing.
 #![tactic(auto)]
 
 mod access_lists;
@@ -12,4 +12,6 @@ mod theorems;
 
 pub use log_rights::{Ownership, log_counts, log_mode};
 pub use narrowing::{AccessList, NewRights, narrowed};
-pub use theorems::{log_of_owner_counts, narrowed_log_counts, new_mode_is_widest};
+pub use theorems::{
+    listed_file_keeps_writers, log_of_owner_counts, narrowed_log_counts, new_mode_is_widest,
+};

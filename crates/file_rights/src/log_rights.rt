@@ -1,4 +1,4 @@
-//! Whether a log beside a file counts, and the rights that a log gets.
+//! Logs beside files: whether a log counts, and the mode of a log.
 ghost use Rattle.std.specs.Prelude.{◌≡◌, ◌↔◌, IsTrue};
 ghost use Rattle.file_rights.specs.LogRights.{GrantsAsMode, LogCounts, log_counts, log_mode, unexecuted};
 ghost use Rattle.file_rights.specs.LogRights.{is_closed_to, is_of_trusted, is_of_writers, keeps_writers};
@@ -6,14 +6,14 @@ ghost use Rattle.file_rights.specs.LogRights.{is_closed_to, is_of_trusted, is_of
 use crate::classes::Classes;
 use crate::rights::Rights;
 
-/// Whose a file is, and its mode.
+/// The owner, the group and the mode of a file.
 #[derive(Clone, Copy)]
 pub struct Ownership {
-    /// The user who owns the file.
+    /// The user ID of the owner.
     pub owner: u32,
-    /// The group of the file.
+    /// The group ID.
     pub group: u32,
-    /// The mode of the file.
+    /// The mode. Bits of the file's type do not matter.
     pub mode: u32,
 }
 
@@ -24,20 +24,20 @@ fn is_of_trusted(file: Ownership, log: Ownership, caller: u32) -> bool
     log.owner == file.owner || (log.owner == caller || log.owner == 0)
 }
 
-/// Returns true if only its owner and the members of a group may write a directory.
-fn is_closed_to(group: u32, directory: Ownership) -> bool
-    ensures { result ≡ is_closed_to group directory }
+/// Returns true if only its owner and the members of a group may write a folder.
+fn is_closed_to(group: u32, folder: Ownership) -> bool
+    ensures { result ≡ is_closed_to group folder }
 {
-    let classes = Classes::of(directory.mode);
-    !classes.other.write && (directory.group == group || !classes.group.write)
+    let classes = Classes::of(folder.mode);
+    !classes.other.write && (folder.group == group || !classes.group.write)
 }
 
-/// Returns true if a log has the group that may write the file, and nobody else may write the directory.
-fn is_of_writers(file: Ownership, log: Ownership, directory: Ownership) -> bool
-    ensures { result ≡ is_of_writers file log directory }
+/// Returns true if a log has the group that may write the file, and nobody else may write the folder.
+fn is_of_writers(file: Ownership, log: Ownership, folder: Ownership) -> bool
+    ensures { result ≡ is_of_writers file log folder }
 {
     let classes = Classes::of(file.mode);
-    classes.group.write && (log.group == file.group && is_closed_to(file.group, directory))
+    classes.group.write && (log.group == file.group && is_closed_to(file.group, folder))
 }
 
 /// Returns true if nobody but their owners may write a log who may not write the file.
@@ -52,26 +52,31 @@ fn keeps_writers(file: Ownership, log: Ownership) -> bool
     (!of_log.group.write || in_group) && (!of_log.other.write || outside)
 }
 
-/// Returns true if a log beside a file in a directory counts, by the bits of their modes.
-fn counts(file: Ownership, log: Ownership, directory: Ownership, caller: u32) -> bool
-    ensures { result ≡ log_counts file log directory caller }
+/// Computes `log_counts` by the bits of the modes.
+fn counts(file: Ownership, log: Ownership, folder: Ownership, caller: u32) -> bool
+    ensures { result ≡ log_counts file log folder caller }
 {
-    (is_of_trusted(file, log, caller) || is_of_writers(file, log, directory))
+    (is_of_trusted(file, log, caller) || is_of_writers(file, log, folder))
         && keeps_writers(file, log)
 }
 
-/// Returns true if a log beside a file in a directory counts.
+/// Returns true if a log beside a file in a folder counts.
 ///
-/// Its owner owns the file, or is the caller, or root; or the file's group may write the file and has the log, and
-/// nobody else may write the directory. And nobody may write the log who may not write the file. A log that does not
-/// count may be the work of somebody who may only read the file. The contract is about files without access lists.
-pub fn log_counts(file: Ownership, log: Ownership, directory: Ownership, caller: u32) -> bool
-    ensures { IsTrue result ↔ LogCounts file log directory caller }
+/// A log counts if both hold:
+///
+/// - Its owner is the file's owner, the caller or root. Or the file's group may write the file, the log has that group,
+///   and only that group and the folder's owner may write the folder.
+/// - Only who may write the file may write the log.
+///
+/// Any other log may be the work of a user who may only read the file. The contract is about files without access
+/// lists.
+pub fn log_counts(file: Ownership, log: Ownership, folder: Ownership, caller: u32) -> bool
+    ensures { IsTrue result ↔ LogCounts file log folder caller }
 {
-    counts(file, log, directory, caller)
+    counts(file, log, folder, caller)
 }
 
-/// Returns rights without the one to execute.
+/// Returns the rights without the right to execute.
 fn unexecuted(rights: Rights) -> Rights
     ensures { result ≡ unexecuted rights }
 {
@@ -81,8 +86,8 @@ fn unexecuted(rights: Rights) -> Rights
     }
 }
 
-/// Returns the mode of a log, or of a hidden file, beside a file of a mode: who may read the file may read the log, and
-/// who may write the file may write the log.
+/// Returns the mode of a log or of a hidden file beside a file. Who may read the file may read the log, and who may
+/// write the file may write the log. Nobody may execute the log.
 pub fn log_mode(mode: u32) -> u32
     ensures value { result ≡ log_mode mode }
     ensures rights { GrantsAsMode mode result }

@@ -1,5 +1,5 @@
-//! The rights of a new file that takes the place of an old one.
-ghost use Rattle.std.specs.Prelude.{◌≡◌, true};
+//! The rights of a new file that replaces an old file.
+ghost use Rattle.std.specs.Prelude.{◌≡◌, ◌<◌, true};
 ghost use Rattle.file_rights.specs.AccessLists.{entries_of, list_classes, or_else, first_rights};
 ghost use Rattle.file_rights.specs.Narrowing.{keeps_list, new_rights, old_classes, sets_list, special_bits};
 ghost use Rattle.file_rights.specs.Narrowing.{without_group, without_owner};
@@ -9,27 +9,27 @@ use crate::access_lists::{common_within, entry_bytes, first_rights};
 use crate::classes::Classes;
 use crate::rights::Rights;
 
-/// What is known of the access list of a file.
+/// The access list of a file, as far as the caller can read it.
 #[derive(Clone, Copy)]
 pub enum AccessList<'a> {
-    /// There is none. A program that cannot see access lists has this as a premise.
+    /// The file has no access list. A program that cannot read access lists has this as a premise.
     Absent,
-    /// There may be one that cannot be read.
+    /// The file may have an access list, which cannot be read.
     Unreadable,
-    /// The bytes of the list, as the system gives them for the attribute system.posix_acl_access.
+    /// The bytes of the attribute system.posix_acl_access.
     Bytes(&'a [u8]),
 }
 
-/// What to set of the rights of a new file.
+/// The rights to set on a new file.
 #[derive(Clone, Copy)]
 pub struct NewRights {
-    /// The mode, which is narrow enough without a list too.
+    /// The mode to set first. Without a list it already grants nobody too much.
     pub mode: u32,
-    /// Whether the old list may be set behind the mode.
+    /// True if the old list may be set after the mode.
     pub sets_list: bool,
 }
 
-/// Returns the rights in the first entry with a tag, or others.
+/// Returns the rights of the first entry with a tag, or `other` if no entry has the tag.
 fn first_or(entries: &[u8], tag: u32, other: Rights) -> Rights
     ensures { result ≡ or_else other (first_rights tag (entries_of entries.now)) }
 {
@@ -39,7 +39,7 @@ fn first_or(entries: &[u8], tag: u32, other: Rights) -> Rights
     }
 }
 
-/// Returns what a list grants each user of a class, whoever he is.
+/// Returns the rights that a list grants every user of each class.
 fn list_classes(entries: &[u8]) -> Classes
     ensures { result ≡ list_classes (entries_of entries.now) }
 {
@@ -55,7 +55,7 @@ fn list_classes(entries: &[u8]) -> Classes
     }
 }
 
-/// Returns what an old file grants each user of a class, whoever he is.
+/// Returns the rights that an old file grants every user of each class, or none if its list is unreadable.
 fn old_classes(mode: u32, list: AccessList<'_>) -> Classes
     ensures { result ≡ old_classes mode list.entry }
 {
@@ -69,7 +69,8 @@ fn old_classes(mode: u32, list: AccessList<'_>) -> Classes
     }
 }
 
-/// Returns the classes of a file that may have another owner: the old one is in the group or among the others then.
+/// Returns the classes of a file with the same owner or another. With another owner, the old owner is in the group or
+/// among the others, so these get no right that he did not have.
 fn without_owner(classes: Classes, has_owner: bool) -> Classes
     ensures { result ≡ without_owner has_owner classes }
 {
@@ -83,8 +84,8 @@ fn without_owner(classes: Classes, has_owner: bool) -> Classes
     }
 }
 
-/// Returns the classes of a file that may have another group: members of the old one may be among the others then, and
-/// some of the others in the new one.
+/// Returns the classes of a file with the same group or another. With another group, members of the old group may be
+/// among the others, and others in the new group, so both classes get the rights that both had.
 fn without_group(classes: Classes, has_group: bool) -> Classes
     ensures { result ≡ without_group has_group classes }
 {
@@ -99,9 +100,11 @@ fn without_group(classes: Classes, has_group: bool) -> Classes
     }
 }
 
-/// Returns the bits above the classes: those of a file with the same owner, and set-group-ID only with the same group.
+/// Returns the bits above the classes. Only a file with the same owner keeps them, and set-group-ID only with the same
+/// group.
 fn special_bits(mode: u32, has_owner: bool, has_group: bool) -> u32
-    ensures { result ≡ special_bits has_owner has_group mode }
+    ensures value { result ≡ special_bits has_owner has_group mode }
+    ensures upper { result < 8 }
 {
     if !has_owner {
         0
@@ -112,7 +115,7 @@ fn special_bits(mode: u32, has_owner: bool, has_group: bool) -> u32
     }
 }
 
-/// Returns true if the list with these entries may be set: the owner is the same, or had all that the list may grant.
+/// Returns true if the owner is the same, or had all rights that the list may grant.
 fn keeps_list(entries: &[u8], has_owner: bool) -> bool
     ensures { result ≡ keeps_list has_owner (entries_of entries.now) }
 {
@@ -122,7 +125,7 @@ fn keeps_list(entries: &[u8], has_owner: bool) -> bool
     has_owner || (owner.covers(mask) && owner.covers(other))
 }
 
-/// Returns true if the old list may be set.
+/// Returns true if the old list may be set on the new file.
 fn sets_list(list: AccessList<'_>, has_owner: bool, has_group: bool) -> bool
     ensures { result ≡ sets_list list.entry has_owner has_group }
 {
@@ -135,13 +138,13 @@ fn sets_list(list: AccessList<'_>, has_owner: bool, has_group: bool) -> bool
     }
 }
 
-/// Returns the rights of a new file that takes the place of an old one, or is made beside it, by the mode and the
-/// access list of the old one, and by whether the new one has the same owner and group.
+/// Returns the rights of a new file that replaces an old file, or is created beside it. The arguments are the mode and
+/// the access list of the old file, and whether the new file has the same owner and group.
 ///
-/// Nobody but the owner of the new file may do with it what he might not do with the old one: with the mode alone, and
-/// with the old list too if that may be set. If owner and group are the same, and a list can be read, nothing is lost.
-/// The new file has the mode 0600 and no list before this mode is set, and the list is set behind the mode. If the list
-/// cannot be set, the mode stands.
+/// Only the owner of the new file may do with it what he might not do with the old file: with the mode alone, and with
+/// the old list if `sets_list` is true. If owner and group are the same, and the list is not unreadable, nothing is
+/// lost. Before the mode is set, the new file has the mode 0600 and no list. The list is set after the mode. If the
+/// system refuses the list, the mode stays as it is.
 pub fn narrowed(mode: u32, list: AccessList<'_>, has_owner: bool, has_group: bool) -> NewRights
     ensures value { result ≡ new_rights mode list.entry has_owner has_group }
     ensures mode { ModeNarrows mode list.entry has_owner has_group result.mode }

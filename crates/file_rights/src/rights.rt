@@ -1,8 +1,8 @@
-//! What one class of users may do with a file.
+//! The rights to read, to write and to execute.
 ghost use Rattle.std.specs.Prelude.{◌≡◌};
 ghost use Rattle.file_rights.specs.Rights.{bits_of, common, covers, rights_of};
 
-/// What one class of users may do with a file: three bits of its mode, or an entry of its access list.
+/// Rights to read, to write and to execute: three bits of a mode, or an entry of an access list.
 #[derive(Clone, Copy)]
 pub struct Rights {
     /// May read the file.
@@ -32,7 +32,7 @@ impl Rights {
         u32::from(self.read) * 4 + u32::from(self.write) * 2 + u32::from(self.execute)
     }
 
-    /// Returns the rights that both grant.
+    /// Returns the rights that both have.
     pub(crate) fn common(self, other: Rights) -> Rights
         ensures { result ≡ common self other }
     {
@@ -43,7 +43,7 @@ impl Rights {
         }
     }
 
-    /// Returns true if these rights grant all that the others grant.
+    /// Returns true if these rights include all of the others.
     pub(crate) fn covers(self, other: Rights) -> bool
         ensures { result ≡ covers self other }
     {

@@ -106,30 +106,30 @@ module _ (file log : Ownership) where
       ∙ ap (λ t. cond t (classes_of log.mode).group.write (classes_of log.mode).other.write) of_log
       ∙ may))
 
-module _ (group : ℕ) (directory : Ownership) where
-  closed_forth : is_closed_to group directory ≡ true → IsClosedTo group directory
+module _ (group : ℕ) (folder : Ownership) where
+  closed_forth : is_closed_to group folder ≡ true → IsClosedTo group folder
   closed_forth is user other may =
-      closed_by_bits (classes_of directory.mode).group.write (classes_of directory.mode).other.write
-      (directory.group == group) (user.is_in group) (user.is_in directory.group)
-      (same_group user directory.group group) is (sym (write_by_class user directory other) ∙ may)
+      closed_by_bits (classes_of folder.mode).group.write (classes_of folder.mode).other.write
+      (folder.group == group) (user.is_in group) (user.is_in folder.group)
+      (same_group user folder.group group) is (sym (write_by_class user folder other) ∙ may)
 
-  closed_back : IsClosedTo group directory → is_closed_to group directory ≡ true
+  closed_back : IsClosedTo group folder → is_closed_to group folder ≡ true
   closed_back closed =
-      bits_from_closed (classes_of directory.mode).group.write (classes_of directory.mode).other.write
-      (directory.group == group)
+      bits_from_closed (classes_of folder.mode).group.write (classes_of folder.mode).other.write
+      (folder.group == group)
       (λ in_g in_d alike may.
-      let user = witness directory.owner 0 group directory.group in_g in_d in
-      let other : user.uid ≢ directory.owner = omega arith in
-      let of_group : user.is_in group ≡ in_g = in_first_is group directory.group in_g in_d in
-      let of_directory : user.is_in directory.group ≡ in_d =
-      in_second_is group directory.group in_g in_d alike in
+      let user = witness folder.owner 0 group folder.group in_g in_d in
+      let other : user.uid ≢ folder.owner = omega arith in
+      let of_group : user.is_in group ≡ in_g = in_first_is group folder.group in_g in_d in
+      let of_folder : user.is_in folder.group ≡ in_d =
+      in_second_is group folder.group in_g in_d alike in
       sym of_group
       ∙ closed user other
-      (write_by_class user directory other
-      ∙ ap (λ t. cond t (classes_of directory.mode).group.write (classes_of directory.mode).other.write)
-      of_directory ∙ may))
+      (write_by_class user folder other
+      ∙ ap (λ t. cond t (classes_of folder.mode).group.write (classes_of folder.mode).other.write)
+      of_folder ∙ may))
 
-module _ (file log directory : Ownership) (caller : ℕ) where
+module _ (file log folder : Ownership) (caller : ℕ) where
   trusted_forth : is_of_trusted file log caller ≡ true → IsOfTrusted file log caller
   trusted_forth is = elim (or_cases (log.owner == file.owner) _ is) [
     | inl owner ↦ inl (eqb-true _ _ owner)
@@ -159,22 +159,22 @@ module _ (file log directory : Ownership) (caller : ℕ) where
         ]
       ]
 
-  writers_forth : is_of_writers file log directory ≡ true → IsOfWriters file log directory
+  writers_forth : is_of_writers file log folder ≡ true → IsOfWriters file log folder
   writers_forth is =
       let first = and_parts _ _ is in
       let second = and_parts _ _ first.1 in
       record {
         writes = first.0;
         group = eqb-true _ _ second.0;
-        closed = closed_forth file.group directory second.1;
+        closed = closed_forth file.group folder second.1;
       }
 
-  writers_back : IsOfWriters file log directory → is_of_writers file log directory ≡ true
+  writers_back : IsOfWriters file log folder → is_of_writers file log folder ≡ true
   writers_back is =
       and_from _ _ is.writes
-      (and_from _ _ (eq-eqb _ _ is.group) (closed_back file.group directory is.closed))
+      (and_from _ _ (eq-eqb _ _ is.group) (closed_back file.group folder is.closed))
 
-  counts_forth : log_counts file log directory caller ≡ true → LogCounts file log directory caller
+  counts_forth : log_counts file log folder caller ≡ true → LogCounts file log folder caller
   counts_forth is =
       let parts = and_parts _ _ is in
       record {
@@ -185,16 +185,16 @@ module _ (file log directory : Ownership) (caller : ℕ) where
         writers = keeps_forth file log parts.1;
       }
 
-  counts_back : LogCounts file log directory caller → log_counts file log directory caller ≡ true
+  counts_back : LogCounts file log folder caller → log_counts file log folder caller ≡ true
   counts_back is =
       and_from _ _ (elim is.maker [
-        | inl trusted ↦ or_left (is_of_trusted file log caller) (is_of_writers file log directory)
+        | inl trusted ↦ or_left (is_of_trusted file log caller) (is_of_writers file log folder)
             (trusted_back trusted)
-        | inr writers ↦ or_right (is_of_trusted file log caller) (is_of_writers file log directory)
+        | inr writers ↦ or_right (is_of_trusted file log caller) (is_of_writers file log folder)
             (writers_back writers)
       ]) (keeps_back file log is.writers)
 
   -- what is computed says whether a log counts
-  pub counts_iff : (result : Bool) → result ≡ log_counts file log directory caller
-      → (result ≡ true) ↔ LogCounts file log directory caller
+  pub counts_iff : (result : Bool) → result ≡ log_counts file log folder caller
+      → (result ≡ true) ↔ LogCounts file log folder caller
   counts_iff result is = (λ yes. counts_forth (sym is ∙ yes), λ counts. is ∙ counts_back counts)

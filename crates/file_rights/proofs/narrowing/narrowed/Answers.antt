@@ -1,24 +1,12 @@
-use Rattle.std.proofs.Common.{◌≡◌, ◌<◌, ◌+◌, ◌*◌, ℕ, rules, arith, ap, sym, ◌∙◌, subst}
+use Rattle.std.proofs.Common.{◌≡◌, ◌+◌, ◌*◌, rules, arith, ap, sym, ◌∙◌}
 use Rattle.file_rights.specs.declared.narrowing.NewRights.{NewRights}
-use Rattle.file_rights.specs.Narrowing.{new_rights, special_bits, sets_list}
-use Rattle.file_rights.proofs.classes.Bits.{mode_below}
+use Rattle.file_rights.specs.Narrowing.{new_rights}
 use Rattle.file_rights.proofs.narrowing.Narrow.{list_narrows, mode_narrows}
-use Rattle.file_rights.proofs.narrowing.Special.{keeps_ids, keeps_rights, special_below}
+use Rattle.file_rights.proofs.narrowing.Special.{keeps_ids, keeps_rights}
 use Rattle.file_rights.proofs.narrowing.narrowed.Goals as goal
 
 pub overflow_add-result : goal.overflow_add-result
-overflow_add-result c =
-    omega (
-      arith,
-      c.special_bits.ensures,
-      c.mode.ensures,
-      special_below c.args.has_owner c.args.has_group c.args.mode,
-      mode_below (record {
-        owner = c.of.result;
-        group = c.without_group-narrow.result.group;
-        other = c.without_group-narrow.result.other;
-      }),
-    )
+overflow_add-result c = omega (arith, c.special_bits.ensures.upper, c.mode.ensures.upper)
 
 pub returns-clause-mode : goal.returns-clause-mode
 returns-clause-mode c =
@@ -31,17 +19,8 @@ returns-clause-list c = λ is. list_narrows c.args.list c.args.has_owner c.args.
 pub returns-clause-ids : goal.returns-clause-ids
 returns-clause-ids c =
     keeps_ids c.args.has_owner c.args.has_group c.args.mode c.mode.result
-    (c.special_bits.result * 512 + c.mode.result)
-    (omega (
-      arith,
-      c.mode.ensures,
-      mode_below (record {
-        owner = c.of.result;
-        group = c.without_group-narrow.result.group;
-        other = c.without_group-narrow.result.other;
-      }),
-    ))
-    (ap (λ n. n * 512 + c.mode.result) c.special_bits.ensures)
+    (c.special_bits.result * 512 + c.mode.result) c.mode.ensures.upper
+    (ap (λ n. n * 512 + c.mode.result) c.special_bits.ensures.value)
 
 pub returns-clause-unchanged : goal.returns-clause-unchanged
 returns-clause-unchanged c = λ owners groups.

@@ -9,3 +9,13 @@ overflow_add-result-2 c = omega (
   bits_below c.args.self.group,
   bits_below c.args.self.other,
 )
+
+pub returns-clause-upper : goal.returns-clause-upper
+returns-clause-upper c =
+    omega (
+      arith,
+      c.bits.ensures,
+      bits_below c.args.self.owner,
+      bits_below c.args.self.group,
+      bits_below c.args.self.other,
+    )

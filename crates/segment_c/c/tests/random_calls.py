@@ -1,7 +1,8 @@
 """random_calls.py FOLDER [SEED [STEPS [plain]]]: makes the same random calls to objects of a segment and to Python's
 own list, dict and bytearray, and compares the answers and the classes of errors. It makes about STEPS calls to lists
 and records, as many to maps, and as many to the names in a segment and in a group of it. On the way it saves the
-segment and opens it again. With `plain`, the package does without what the library knows of CPython."""
+segment and opens it again. Then it makes random transactions, of which it undoes some, beside views of a file that is
+opened by copy, mapped or durable. With `plain`, the package does without what the library knows of CPython."""
 import collections.abc
 import os
 import random
@@ -370,5 +371,139 @@ for _ in range(passes):
         if list(segment) != ["aa", "group", "h"] or segment.sanity() is not True:
             wrong += 1
             print(f"random_calls.py: WRONG names {list(segment)}")
+
+
+# ---- transactions, of which some are undone, beside views
+
+class Undone(Exception):
+    """Leaves a transaction."""
+
+
+class View:
+    """A view of a vector, and what it shows: what the vector has, or what it had when it was left a copy."""
+
+    def __init__(self, segment, name):
+        self.name, self.values, self.view = name, None, segment[name].view()
+        if not self.view:
+            # it shows no memory
+            self.name, self.values = None, []
+
+    def shown(self, vectors):
+        return vectors[self.name] if self.values is None else self.values
+
+
+def leave(views, vectors):
+    """Notes that views show the segment no more. Two of one vector still show the same memory."""
+    left = {name: list(held) for name, held in vectors.items()}
+    for each in views:
+        if each.values is None:
+            each.name, each.values = None, left[each.name]
+
+
+def same(what, got, wanted):
+    global wrong, calls
+    calls += 1
+    if got != wanted:
+        wrong += 1
+        print(f"random_calls.py: WRONG {what}: {got!r}"[:300] + f", not {wanted!r}"[:300])
+
+
+def change_vectors(segment, vectors, views):
+    name = chance.choice(list(vectors))
+    held, way = vectors[name], chance.choice("sswwaxedvvr")
+    try:
+        if way == "s" and held:
+            place, number = chance.randrange(len(held)), scalar("i64")
+            segment[name][place] = held[place] = number
+        elif way == "w" and views and (each := chance.choice(views)).shown(vectors):
+            shown = each.shown(vectors)
+            place, number = chance.randrange(len(shown)), scalar("i64")
+            each.view[place] = shown[place] = number
+        elif way in "ax":
+            more = [scalar("i64") for _ in range(chance.choice((1, 3, 700)))]
+            segment[name].extend(more)
+            held += more
+        elif way == "e" and held:
+            del segment[name][-1]
+            held.pop()
+        elif way == "d":
+            other = chance.choice("abcdefgh")
+            if other in vectors and len(vectors) > 2:
+                del segment[other]
+                del vectors[other]
+            elif other not in vectors:
+                segment[other] = vectors[other] = [7] * chance.choice((1, 5, 600))
+        elif way == "v" and len(views) < 8:
+            views.append(View(segment, name))
+        elif way == "r" and views:
+            views.pop(chance.randrange(len(views)))
+    except zaluxhoni.LentError:
+        same("a refusal", any(each.name for each in views), True)
+
+
+def step(segment, vectors, views, depth):
+    """Makes random calls in a transaction, which may have another one within, and may be undone. Returns whether it was
+    kept."""
+    before = {name: list(held) for name, held in vectors.items()}
+    try:
+        with segment.transaction():
+            for _ in range(chance.randint(0, 9)):
+                change_vectors(segment, vectors, views)
+                if depth < 3 and chance.random() < 0.15:
+                    step(segment, vectors, views, depth + 1)
+            if chance.random() < 0.5:
+                raise Undone
+        is_kept = True
+    except Undone:
+        is_kept = False
+        leave(views, vectors)
+        vectors.clear()
+        vectors.update(before)
+    look(segment, vectors, views, "a transaction")
+    return is_kept
+
+
+def look(segment, vectors, views, what):
+    same(f"the vectors behind {what}", {name: segment[name].copy() for name in segment}, vectors)
+    same(f"the views behind {what}", [each.view.tolist() for each in views], [each.shown(vectors) for each in views])
+    same("its sanity", segment.sanity(), True)
+
+
+def beside_views(named):
+    """Opens a file again and again, and ends it in each way, while views of it stay."""
+    vectors, views = {"a": [1, 2], "b": [3] * 1000}, []
+    file = path + ".views"
+    if os.path.exists(file):
+        os.unlink(file)
+    with zaluxhoni.open(file, "x", size=chance.choice((65536, 1 << 20))) as segment:
+        segment.update(vectors)
+    for _ in range(passes):
+        kept = {name: list(held) for name, held in vectors.items()}
+        segment = zaluxhoni.open(file, "w", check_same_thread=chance.random() < 0.5, **named)
+        for _ in range(steps // 300):
+            for _ in range(chance.randint(0, 4)):
+                change_vectors(segment, vectors, views)
+            # the end of a transaction commits a durable file
+            is_saved = step(segment, vectors, views, 1) and "durable" in named
+            if chance.random() < 0.2:
+                segment.flush()
+                is_saved = True
+            if is_saved:
+                kept = {name: list(held) for name, held in vectors.items()}
+        ends_well = chance.random() < 0.5
+        segment.close() if ends_well else segment.discard()
+        leave(views, vectors)
+        if not ends_well and "mapped" not in named:
+            vectors.clear()
+            vectors.update(kept)
+        with zaluxhoni.open(file, "r") as segment:
+            look(segment, vectors, views, "the end of a file")
+        for each in views:
+            if each.values:
+                each.view[0] = each.values[0] = 9
+
+
+for way_of_file in ({}, {"mapped": True}, {"durable": True}):
+    beside_views(way_of_file)
 print(f"random_calls.py: {calls} calls, {wrong} wrong")
 sys.exit(wrong != 0)

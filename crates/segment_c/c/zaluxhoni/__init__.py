@@ -20,21 +20,20 @@ from __future__ import annotations
 import ctypes
 import os
 import time
-import warnings
 from typing import TYPE_CHECKING, Any, List, Optional
 
 from . import _library
-from ._errors import (NAMED_IN_0_9, AbsentError, BadContainerError, BadCountError, BadFreeTreeError, BadGrowthError,
-                      BadImageError, BadImageSizeError, BadIndexError, BadKeyError, BadKindError, BadMagicError,
-                      BadModeError, BadNameError, BadObjectError, BadReservedError, BadSizeError, BadTagError,
-                      BadValueError, ClosedError, DanglingLinkError, Error, ExistsError, FileError, FileFaultError,
-                      FileForkedError, FileInStepError, FileInUseError, FileLogForeignError, FileLogInTheWayError,
-                      FileLogLeftError, FileMissingError, FileReplacedError, FileTooLargeError, FileUnsureError,
-                      FileUnsyncedError, IsDeviceError, IsFolderError, IsPipeError, LentError, NoElementError,
-                      NoFileError, NoMemoryError, NoSpaceError, NotFoundError, NotUndoneError, OrphanBlockError,
-                      OutOfRangeError, PathExistsError, ReadOnlyError, SharedBlockError, ShortRegionError,
-                      TooLargeError, TruncatedError, UnsupportedVersionError, WrongKindError, WrongTaskError,
-                      WrongThreadError, bad_size, image_error_of, region_error, shown)
+from ._errors import (AbsentError, BadContainerError, BadCountError, BadFreeTreeError, BadGrowthError, BadImageError,
+                      BadImageSizeError, BadIndexError, BadKeyError, BadKindError, BadMagicError, BadModeError,
+                      BadNameError, BadObjectError, BadReservedError, BadSizeError, BadTagError, BadValueError,
+                      ClosedError, DanglingLinkError, Error, ExistsError, FileError, FileFaultError, FileForkedError,
+                      FileInStepError, FileInUseError, FileLogForeignError, FileLogInTheWayError, FileLogLeftError,
+                      FileMissingError, FileReplacedError, FileTooLargeError, FileUnsureError, FileUnsyncedError,
+                      IsDeviceError, IsFolderError, IsPipeError, LentError, NoElementError, NoFileError, NoMemoryError,
+                      NoSpaceError, NotFoundError, NotUndoneError, OrphanBlockError, OutOfRangeError, PathExistsError,
+                      ReadOnlyError, SharedBlockError, ShortRegionError, TooLargeError, TruncatedError,
+                      UnsupportedVersionError, WrongKindError, WrongTaskError, WrongThreadError, bad_size,
+                      image_error_of, named_in_0_9, region_error, shown)
 from ._library import zx
 from ._objects import Array, Map, Object, String, Strings, Vector
 from ._records import Records
@@ -71,12 +70,8 @@ def __dir__() -> List[str]:
 
 if not TYPE_CHECKING:
     def __getattr__(name: str) -> Any:
-        """Finds an exception by its name of version 0.9. A later version has these names no more."""
-        kind = NAMED_IN_0_9.get(name)
-        if kind is None:
-            raise AttributeError(f"module {__name__!r} has no attribute {name!r}")
-        warnings.warn(f"zaluxhoni.{name} is now zaluxhoni.{kind.__name__}", DeprecationWarning, stacklevel=2)
-        return kind
+        """Finds an exception by its name of version 0.9."""
+        return named_in_0_9(__name__, name)
 
 
 def _image_bytes(image: Any) -> bytes:

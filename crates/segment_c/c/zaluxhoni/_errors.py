@@ -3,7 +3,8 @@ from __future__ import annotations
 
 import errno
 import os
-from typing import Any, Dict, Optional, Tuple, Type
+import warnings
+from typing import TYPE_CHECKING, Any, Dict, Optional, Tuple, Type
 
 from . import _library
 
@@ -379,7 +380,22 @@ def _named_in_0_9() -> Dict[str, Type[Error]]:
     return names
 
 
-NAMED_IN_0_9 = _named_in_0_9()
+_old_names = _named_in_0_9()
+
+
+def named_in_0_9(module: str, name: str) -> Type[Error]:
+    """Returns the exception that had this name in version 0.9, with a warning. A later version has these names no
+    more."""
+    kind = _old_names.get(name)
+    if kind is None:
+        raise AttributeError(f"module {module!r} has no attribute {name!r}")
+    warnings.warn(f"{module}.{name} is now {module}.{kind.__name__}", DeprecationWarning, stacklevel=3)
+    return kind
+
+
+if not TYPE_CHECKING:
+    def __getattr__(name: str) -> Any:
+        return named_in_0_9(__name__, name)
 
 
 def error_of(code: int, about: object = None) -> Error:

@@ -181,6 +181,10 @@ zx_code zx_log_edit(uint64_t offset, const uint8_t *bytes, size_t len, uint8_t *
    Errors: ZX_TOO_LARGE, if the payload has more than 2^40 bytes. */
 zx_code zx_log_body(const uint8_t *payload, size_t len, uint8_t *body, size_t room);
 
+/* Says whose a log is, by the first 4144 bytes of it, or all if it has fewer, and its length: 0 for a file of somebody
+   else, 1 for a log without a record, 2 for a log with records. */
+uint32_t zx_log_kind(const uint8_t *head, size_t head_len, uint64_t len);
+
 /* Writes a gate, of 4096 bytes. */
 zx_code zx_log_gate(bool is_open, uint8_t *gate, size_t room);
 

@@ -79,7 +79,8 @@ static zx_code open_existing(zx_file *file, struct zx_held_file *held, struct st
     zx_code code = held->state == READ ? open_log(file, held) : settle_log(file, held, found);
     if (code != ZX_DONE) return code;
     uint64_t len = (uint64_t)found->st_size;
-    if (held->log >= 0 && len > 0) return read_recovered(file, held, len, how);
+    if (held->log >= 0 && held->has_records)
+        return len > 0 ? read_recovered(file, held, len, how) : faulty(file, ZX_FILE_LOG_FOREIGN, ESTALE);
     return way == MAPPED ? map(file, held, found, how) : read_segment(file, held->file, how);
 }
 
@@ -143,7 +144,7 @@ zx_code zx_file_save(zx_file *file) {
         return answered(file, save_durable(file, file->held));
     }
     if (file->held->mapped) return zx_file_flush(file);
-    if (is_saved(&file->segment, file->held)) return still_named(file, file->held);
+    if (is_saved(&file->segment, file->held)) return answered(file, sync_found(file, file->held));
     code = image_of(&file->segment, &image);
     if (code != ZX_DONE) return code;
     code = save_held(file, file->held, &image);
@@ -191,7 +192,6 @@ static zx_code put(zx_file *file, const char *path, uint32_t mode, const struct 
             if (code == ZX_DONE) code = sync_name(file, held);
         } else {
             code = settle_log(file, held, &found);
-            if (code == ZX_FILE_LOG_FOREIGN) code = drop_log(file, held);
             if (code == ZX_DONE) code = save_held(file, held, image);
         }
         abandon(held);
@@ -247,11 +247,15 @@ static zx_code end_mapped(zx_file *file, struct zx_held_file *held) {
     return is_long && !set_length(held->file, size) ? fault(file) : (zx_code)ZX_DONE;
 }
 
-/* What a close does first for a file that is durable: it saves it. */
+/* What a close does first for a file that is durable: it saves it. If its changes are committed and only the file cannot
+   be replaced, as on a full disk, the next opening finds them in the log. */
 static zx_code end_durable(zx_file *file, struct zx_held_file *held) {
     if (!is_own(held) || !file->segment.at) return ZX_DONE;
     if (held->steps > 0) return faulty(file, ZX_FILE_IN_STEP, EBUSY);
-    return save_durable(file, held);
+    zx_code code = commit_all(file, held);
+    if (code != ZX_DONE) return code;
+    code = checkpoint(file, held);
+    return code == ZX_FILE_FAULT || code == ZX_NO_MEMORY ? (zx_code)ZX_DONE : code;
 }
 
 zx_code zx_file_close(zx_file *file) {

@@ -139,10 +139,8 @@ zx_code zx_file_save(zx_file *file) {
     if (how != ZX_WRITE) return ZX_READ_ONLY;
     if (!file->held) return ZX_FILE_NONE;
     if (!is_own(file->held)) return faulty(file, ZX_FILE_FORKED, EPERM);
-    if (is_durable(file->held)) {
-        if (file->held->steps > 0) return faulty(file, ZX_FILE_IN_STEP, EBUSY);
-        return answered(file, save_durable(file, file->held));
-    }
+    if (file->held->steps > 0) return faulty(file, ZX_FILE_IN_STEP, EBUSY);
+    if (is_durable(file->held)) return answered(file, save_durable(file, file->held));
     if (file->held->mapped) return zx_file_flush(file);
     if (is_saved(&file->segment, file->held)) return answered(file, sync_found(file, file->held));
     code = image_of(&file->segment, &image);
@@ -230,19 +228,14 @@ static void let_go(zx_file *file) {
     if (held) abandon(held);
 }
 
-/* What a close asks first of a mapped file: that it has a name, and is as long as its image. A transaction that is open
-   ends with that. */
+/* What a close asks first of a mapped file: that it has a name, and is as long as its image. */
 static zx_code end_mapped(zx_file *file, struct zx_held_file *held) {
     struct stat own;
     uint64_t size;
     if (held->state == READ || !is_own(held)) return ZX_DONE;
     if (fstat(held->file, &own) != 0) return fault(file);
     if (own.st_nlink == 0) return faulty(file, ZX_FILE_REPLACED, ESTALE);
-    if (held->steps > 0) {
-        zx_code code = share_own(file, held);
-        if (code != ZX_DONE) return code;
-        held->steps = 0;
-    }
+    if (held->steps > 0) return faulty(file, ZX_FILE_IN_STEP, EBUSY);
     bool is_long = file->segment.lent && zx_size(&file->segment, &size) == ZX_DONE && (uint64_t)own.st_size != size;
     return is_long && !set_length(held->file, size) ? fault(file) : (zx_code)ZX_DONE;
 }

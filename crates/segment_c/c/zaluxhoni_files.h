@@ -94,8 +94,8 @@ zx_code zx_file_open(zx_file *file, const char *path, uint32_t mode, uint64_t si
    file that was opened with ZX_DURABLE it commits the changes and empties the log. The new file gets the rights, the
    access control list and the user attributes of the old one, and its owner and group if the process may set them.
    Other names of the old file (hard links) keep the old image. Errors: ZX_CLOSED, ZX_READ_ONLY (opened read-only or
-   copy-on-write), ZX_FILE_NONE, ZX_NO_MEMORY, ZX_FILE_FORKED, ZX_FILE_REPLACED, ZX_FILE_FAULT, and for a durable
-   file ZX_FILE_IN_STEP and ZX_FILE_LOG_IN_THE_WAY; after ZX_FILE_UNSYNCED it is saved. After ZX_FILE_FAULT a durable file may be
+   copy-on-write), ZX_FILE_NONE, ZX_NO_MEMORY, ZX_FILE_FORKED, ZX_FILE_REPLACED, ZX_FILE_FAULT, ZX_FILE_IN_STEP, and for a
+   durable file ZX_FILE_LOG_IN_THE_WAY; after ZX_FILE_UNSYNCED it is saved. After ZX_FILE_FAULT a durable file may be
    committed, and not replaced, as on a full disk. */
 zx_code zx_file_save(zx_file *file);
 
@@ -158,8 +158,8 @@ typedef struct {
    ZX_FILE_FAULT and ZX_NO_MEMORY). After ZX_FILE_UNSURE the step is ended; after any other error it is still
    open. zx_file_undo restores the segment and ends the step. Its errors are those of zx_file_rollback.
 
-   While a step is open, its changes are in no file, and zx_file_commit, zx_file_save and zx_file_close of a durable
-   file return ZX_FILE_IN_STEP. Errors of zx_file_begin: ZX_CLOSED, ZX_READ_ONLY, ZX_NO_MEMORY and ZX_FILE_FAULT. */
+   While a step is open, its changes are in no file, and zx_file_commit, zx_file_flush, zx_file_save and zx_file_close
+   return ZX_FILE_IN_STEP. Errors of zx_file_begin: ZX_CLOSED, ZX_READ_ONLY, ZX_NO_MEMORY and ZX_FILE_FAULT. */
 zx_code zx_file_begin(zx_file *file, zx_step *before);
 zx_code zx_file_keep(zx_file *file, zx_step *before);
 zx_code zx_file_undo(zx_file *file, zx_step *before);

@@ -43,7 +43,7 @@ struct zx_held_file {
     uint8_t *at;               /* the mapping, of `len` bytes, or null: it keeps the lock as a descriptor does */
     uint64_t len;
     uint64_t room;             /* the bytes of addresses that the mapping has, if they are more than `len`; or 0 */
-    unsigned steps;            /* open transactions that keep pages */
+    unsigned steps;            /* open transactions */
     struct commits *commits;   /* of a file that is durable, or null */
     int log;                   /* the log beside the file; -1 if none is open */
     bool has_records;          /* whether the log had records when it was opened */

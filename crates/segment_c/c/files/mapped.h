@@ -325,5 +325,6 @@ zx_code zx_file_flush(zx_file *file) {
     file->error = 0;
     if (held->state == READ) return ZX_READ_ONLY;
     if (!is_own(held)) return faulty(file, ZX_FILE_FORKED, EPERM);
+    if (held->steps > 0) return faulty(file, ZX_FILE_IN_STEP, EBUSY);
     return msync(held->at, held->len, MS_SYNC) == 0 ? sync_found(file, held) : fault(file);
 }

@@ -629,6 +629,41 @@ static void a_full_disk(const char *small) {
     unlink(path), unlink(log_path);
 }
 
+/* ---- a save inside a transaction */
+
+static void inside_a_transaction(void) {
+    for (int way = 0; way < 6; way++) {
+        const uint32_t ways[] = { 0, ZX_MAPPED, ZX_DURABLE };
+        zx_file file = ZX_CLOSED_FILE;
+        zx_step before = ZX_NO_STEP, inner = ZX_NO_STEP;
+        told = way / 3 ? "large" : "small";
+        make(path, 1, way / 3 ? 1 << 20 : 4096);
+        DONE(zx_file_open(&file, path, ZX_OPEN_ONLY | ways[way % 3], 0));
+        DONE(zx_file_begin(&file, &before));
+        set(&file, 2);
+        DONE(zx_file_begin(&file, &inner));
+        IS(zx_file_save(&file), ZX_FILE_IN_STEP);
+        IS(file.error, EBUSY);
+        DONE(zx_file_keep(&file, &inner));
+        IS(zx_file_commit(&file), ZX_FILE_IN_STEP);
+        IS(zx_file_flush(&file), ZX_FILE_IN_STEP);
+        IS(zx_file_save_as(&file, path, ZX_OPEN_ONLY), ZX_FILE_IN_STEP);
+        IS(zx_file_close(&file), ZX_FILE_IN_STEP);
+        DONE(zx_file_undo(&file, &before));
+        DONE(zx_file_save(&file));
+        IS(found(path), 1);
+        DONE(zx_file_begin(&file, &before));
+        set(&file, 3);
+        DONE(zx_file_keep(&file, &before));
+        DONE(zx_file_begin(&file, &before));
+        set(&file, 4);
+        zx_file_leave(&file, &before);
+        DONE(zx_file_close(&file));
+        IS(found(path), 4);
+    }
+    unlink(path);
+}
+
 int main(int count_of, char **words) {
     if (count_of < 2) return 2;
     snprintf(room, sizeof room, "%s/others.room", words[1]);
@@ -656,6 +691,7 @@ int main(int count_of, char **words) {
     a_file_with_two_names();
     a_long_log();
     a_limit();
+    inside_a_transaction();
     IS(rmdir(room), 0);
     if (count_of > 2) a_full_disk(words[2]);
     printf("others.c: %d checks, %d wrong\n", checks, wrong);

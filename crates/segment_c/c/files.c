@@ -22,11 +22,23 @@
    between the two readings. */
 enum { READINGS = 8 };
 
+/* Reads a file once more that was found to be no image: another process may have been changing it in place. Returns
+   ZX_FILE_IN_USE if one may be still. */
+static zx_code read_locked(zx_file *file, int from, uint32_t how, zx_code code) {
+    int refused = take_lock(from, LOCK_SH);
+    if (refused == EWOULDBLOCK) return faulty(file, ZX_FILE_IN_USE, EWOULDBLOCK);
+    if (refused) return code;
+    code = read_segment(file, from, how);
+    flock(from, LOCK_UN);
+    return code;
+}
+
 /* Opens what a path leads to, and its segment with what the log says that was read before. */
 static zx_code read_path(zx_file *file, const char *path, const struct image *log, uint32_t how) {
     int from = open(path, O_RDONLY | O_NONBLOCK | O_NOCTTY | O_CLOEXEC);
     if (from < 0) return errno == ENOENT || errno == EINTR ? (zx_code)AGAIN : fault(file);
     zx_code code = log->bytes ? read_with_log(file, from, log, how) : read_segment(file, from, how);
+    if (ZX_TRUNCATED <= code && code <= ZX_ORPHAN_BLOCK && !log->bytes) code = read_locked(file, from, how, code);
     close(from);
     return code;
 }
@@ -95,6 +107,13 @@ static zx_code open_found(zx_file *file, struct zx_held_file *held, struct stat 
     return fstat(held->file, found) == 0 ? open_durable(file, held, found) : fault(file);
 }
 
+/* Returns true if the file is longer than the image of the segment. */
+static bool is_longer_than(zx_file *file, const struct zx_held_file *held) {
+    struct stat found;
+    uint64_t size;
+    return zx_size(&file->segment, &size) == ZX_DONE && fstat(held->file, &found) == 0 && (uint64_t)found.st_size > size;
+}
+
 static zx_code open_held(zx_file *file, const char *path, uint32_t mode, uint64_t size, enum way way) {
     uint32_t how = mode == ZX_OPEN_READ_ONLY ? ZX_READ : mode == ZX_OPEN_COPY_ON_WRITE ? ZX_COPY_ON_WRITE : ZX_WRITE;
     for (int tries = 0; tries < TRIES; tries++) {
@@ -104,7 +123,9 @@ static zx_code open_held(zx_file *file, const char *path, uint32_t mode, uint64_
         if (code != ZX_DONE) return code;
         code = open_found(file, held, &found, how, size, way);
         if (code == ZX_DONE) {
-            held->saved = file->segment.changes;
+            // what follows an image in its file goes with the next save
+            bool is_longer = way == BY_COPY && is_longer_than(file, held);
+            held->saved = file->segment.changes - (is_longer ? 1 : 0);
             file->held = held;
             return ZX_DONE;
         }

@@ -32,11 +32,18 @@ static zx_code open_image(zx_file *file, const struct image *image, uint32_t how
     return explained(file, code, image->len);
 }
 
-/* Opens the segment of the file's bytes. */
+/* Opens the segment of the file's bytes. If a process was killed while it changed the length of the mapped file, bytes can
+   follow the image. */
 static zx_code read_segment(zx_file *file, int from, uint32_t how) {
     struct image image;
     zx_code code = read_all(file, from, &image);
     if (code == ZX_DONE) code = open_image(file, &image, how);
+    uint64_t shown = file->place, said = code == ZX_BAD_IMAGE_SIZE ? size_said(image.bytes) : image.len;
+    if (image.len % 16 == 0 && said < image.len) {
+        const struct image front = { image.bytes, said };
+        if (open_image(file, &front, how) == ZX_DONE) code = ZX_DONE;
+        file->place = shown;
+    }
     free_image(&image);
     return code;
 }

@@ -1,6 +1,6 @@
 /* others FOLDER [SMALL]: what others do beside a file. Files of theirs have the name of its log, logs are left of files that
    are gone, names lead elsewhere in the middle of a call, files have several names, what an opening finds was never synced,
-   logs are long, and with SMALL, a disk of 1 MiB, it is full. It is linked with
+   files are long or broken, and with SMALL, a disk of 1 MiB, it is full. It is linked with
    --wrap=pread,--wrap=pwrite,--wrap=fsync,--wrap=fdatasync,--wrap=linkat,--wrap=renameat,--wrap=unlinkat. */
 #define _GNU_SOURCE
 #include "zaluxhoni_files.h"
@@ -515,12 +515,55 @@ static void a_file_with_two_names(void) {
     }
 }
 
-/* ---- a log that is long */
+/* ---- what a reader meets */
 
 static void put_bytes(const char *at, off_t from, const char *bytes, size_t len) {
     int file = open(at, O_RDWR);
     IS(__real_pwrite(file, bytes, len, from), len);
     close(file);
+}
+
+/* A mapped writer is in the middle of a change: the file is in use. Without a writer it is no image. */
+static void a_file_under_change(void) {
+    zx_file file = ZX_CLOSED_FILE;
+    char old[16];
+    make(path, 1, 4096);
+    DONE(zx_file_open(&file, path, ZX_OPEN_ONLY | ZX_MAPPED, 0));
+    int bytes = open(path, O_RDONLY);
+    IS(__real_pread(bytes, old, 16, 0), 16);
+    close(bytes);
+    put_bytes(path, 0, "no image at all!", 16);
+    IS(found(path), -(int64_t)ZX_FILE_IN_USE);
+    put_bytes(path, 0, old, 16);
+    IS(found(path), 1);
+    DONE(zx_file_close(&file));
+    put_bytes(path, 0, "no image at all!", 16);
+    IS(found(path) <= -(int64_t)ZX_TRUNCATED, true);
+    unlink(path);
+}
+
+/* A process was killed while it made a mapped file longer. */
+static void a_longer_file(void) {
+    struct stat own;
+    for (int way = 0; way < 3; way++) {
+        make(path, 1, 4096);
+        IS(truncate(path, 8192), 0);
+        IS(found(path), 1);
+        DONE(open_and_close(way == 0 ? ZX_OPEN_READ_ONLY : way == 1 ? ZX_OPEN_ONLY : ZX_OPEN_ONLY | ZX_MAPPED, way > 0));
+        IS(found(path), way == 0 ? 1 : 2);
+        IS(stat(path, &own), 0);
+        IS(own.st_size, way == 0 ? 8192 : 4096);
+    }
+    // by copy it is cut although nothing was changed
+    zx_file file = ZX_CLOSED_FILE;
+    IS(truncate(path, 8192), 0);
+    DONE(zx_file_open(&file, path, ZX_OPEN_ONLY, 0));
+    DONE(zx_file_close(&file));
+    IS(stat(path, &own), 0);
+    IS(own.st_size, 4096);
+    IS(truncate(path, 4100), 0);
+    IS(found(path) <= -(int64_t)ZX_TRUNCATED, true);
+    unlink(path);
 }
 
 /* What follows the records of a log may be long, and is not read. */
@@ -689,6 +732,8 @@ int main(int count_of, char **words) {
     a_log_is_never_empty();
     a_gate_that_was_not_synced();
     a_file_with_two_names();
+    a_file_under_change();
+    a_longer_file();
     a_long_log();
     a_limit();
     inside_a_transaction();

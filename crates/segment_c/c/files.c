@@ -49,7 +49,7 @@ static zx_code read_both(zx_file *file, const char *path, const struct sight *si
     char *real = sight->is_link ? realpath(path, NULL) : NULL;
     if (sight->is_link && !real)
         return errno == ENOENT ? (zx_code)AGAIN : errno == ENOMEM ? (zx_code)ZX_NO_MEMORY : fault(file);
-    zx_code code = log_of(file, real ? real : path, &log);
+    zx_code code = log_of(file, real ? real : path, &sight->found, &log);
     if (code == ZX_DONE) code = read_path(file, real ? real : path, &log, how);
     free(log.bytes);
     free(real);

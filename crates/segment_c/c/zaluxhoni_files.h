@@ -191,6 +191,12 @@ zx_code zx_log_body(const uint8_t *payload, size_t len, uint8_t *body, size_t ro
    else, 1 for a log without a record, 2 for a log with records. */
 uint32_t zx_log_kind(const uint8_t *head, size_t head_len, uint64_t len);
 
+/* Says whether a log counts beside a file in a folder, by their owners, groups and modes: 1 if nobody but its owner, the
+   file's, root or the caller can have made or may write it who may not write the file; otherwise 0. */
+uint32_t zx_log_counts(uint32_t file_owner, uint32_t file_group, uint32_t file_mode, uint32_t log_owner,
+                       uint32_t log_group, uint32_t log_mode, uint32_t folder_owner, uint32_t folder_group,
+                       uint32_t folder_mode, uint32_t caller);
+
 /* Writes a gate, of 4096 bytes. */
 zx_code zx_log_gate(bool is_open, uint8_t *gate, size_t room);
 

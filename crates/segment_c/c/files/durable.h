@@ -274,11 +274,14 @@ static bool write_gate(const struct zx_held_file *held, bool is_open, uint64_t a
     return zx_log_gate(is_open, gate, sizeof gate) == ZX_DONE && write_at(held->log, gate, sizeof gate, (off_t)at);
 }
 
-/* Fills a new log, which gets its name when it is on the disk, with records, a shut gate, and the rights of the file. */
+/* Fills a new log, which gets its name when it is on the disk, with records, a shut gate, and the rights of the file, but
+   not to execute it. */
 static bool fill_log(struct zx_held_file *held, const struct image *log, uint64_t end) {
     struct stat old;
     uint8_t gate[GATE];
-    return fstat(held->file, &old) == 0 && take_all_but_bytes(held->made, held->file, &old) &&
+    if (fstat(held->file, &old) != 0) return false;
+    old.st_mode &= ~(mode_t)07111;
+    return take_all_but_bytes(held->made, held->file, &old) &&
            zx_log_gate(false, gate, sizeof gate) == ZX_DONE && (end == 0 || write_at(held->made, log->bytes, end, 0)) &&
            write_at(held->made, gate, sizeof gate, (off_t)end) && sync_one(held->made);
 }

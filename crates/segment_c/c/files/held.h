@@ -369,18 +369,21 @@ static const char *last_name(const char *path) {
     return slash ? slash + 1 : path;
 }
 
+/* Opens the folder of a path. -1 if that fails. */
+static int open_folder_of(const char *path) {
+    size_t before = (size_t)(last_name(path) - path);
+    char folder[PATH_MAX + 2];
+    if (before >= PATH_MAX) return errno = ENAMETOOLONG, -1;
+    memcpy(folder, path, before);
+    memcpy(folder + before, ".", 2);
+    return openat(AT_FDCWD, folder, O_RDONLY | O_DIRECTORY | O_CLOEXEC, 0);
+}
+
 /* Opens the folder of the held file. -1 if that fails, or if a name that is a path leads elsewhere by now. */
 static int open_its_folder(const struct zx_held_file *held) {
-    const int how = O_RDONLY | O_DIRECTORY | O_CLOEXEC;
-    const char *name = last_name(held->name);
-    size_t before = (size_t)(name - held->name);
-    char path[PATH_MAX + 2];
-    if (held->folder != AT_FDCWD) return openat(held->folder, ".", how, 0);
-    if (before >= PATH_MAX) return -1;
-    memcpy(path, held->name, before);
-    memcpy(path + before, ".", 2);
-    int folder = openat(AT_FDCWD, path, how, 0);
-    if (folder < 0 || is_named(folder, name, held->file)) return folder;
+    if (held->folder != AT_FDCWD) return openat(held->folder, ".", O_RDONLY | O_DIRECTORY | O_CLOEXEC, 0);
+    int folder = open_folder_of(held->name);
+    if (folder < 0 || is_named(folder, last_name(held->name), held->file)) return folder;
     close(folder);
     return -1;
 }

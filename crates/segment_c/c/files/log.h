@@ -43,15 +43,44 @@ static bool name_log(const char *name, char log[PATH_MAX + 8]) {
 /* Whether an errno says that no log exists. */
 static bool is_no_log(int error) { return error == ENOENT || error == ENAMETOOLONG || error == ENOTDIR; }
 
+/* Asks the proved function whether a log counts. If `folder` is null, nobody else is taken to be kept out of it. */
+static bool do_rights_count(const struct stat *file, const struct stat *log, const struct stat *folder) {
+    return zx_log_counts(file->st_uid, file->st_gid, file->st_mode & 07777, log->st_uid, log->st_gid, log->st_mode & 07777,
+                         folder ? folder->st_uid : 0, folder ? folder->st_gid : 0, folder ? folder->st_mode & 07777 : 0777,
+                         geteuid()) == 1;
+}
+
+/* Returns true if a log counts beside a file of a folder, whose name may begin the path: nobody who may not write the file
+   can have made it, or may write it. The folder matters only for a log of another user of the file's group. */
+static bool does_count(const struct stat *file, const struct stat *log, int folder, const char *path) {
+    struct stat holds;
+    if (do_rights_count(file, log, NULL)) return true;
+    if (log->st_gid != file->st_gid) return false;
+    int opened = folder == AT_FDCWD ? open_folder_of(path) : -1;
+    bool is_known = fstat(folder == AT_FDCWD ? opened : folder, &holds) == 0;
+    if (opened >= 0) close(opened);
+    return is_known && do_rights_count(file, log, &holds);
+}
+
+/* The same of the file that is held. A file that is to be created will be the caller's own. */
+static bool does_log_count(const struct zx_held_file *held, const struct stat *log) {
+    struct stat file = { .st_uid = geteuid(), .st_gid = getegid(), .st_mode = 0600 };
+    bool is_known = held->file < 0 || fstat(held->file, &file) == 0;
+    return is_known && does_count(&file, log, held->folder, held->name);
+}
+
+/* Takes from the log what nobody may do with the file, whose rights may have become fewer. */
+static void narrow_log(const struct zx_held_file *held, const struct stat *log) {
+    struct stat file;
+    bool is_wider = held->file >= 0 && fstat(held->file, &file) == 0 && (log->st_mode & ~file.st_mode & 0777) != 0;
+    if (is_wider) (void)fchmod(held->log, log->st_mode & file.st_mode & 0777);
+}
+
 /* Finds out what an open file is that has the name of a log. Returns false if it cannot be read. */
-static bool find_kind(int log, enum kind *kind) {
+static bool find_kind(int log, const struct stat *found, enum kind *kind) {
     uint8_t head[HEAD];
-    struct stat found;
-    *kind = FOREIGN;
-    if (fstat(log, &found) != 0) return false;
-    if (!S_ISREG(found.st_mode)) return true;
     ssize_t len = read_at(log, head, HEAD, 0);
-    if (len >= 0) *kind = (enum kind)zx_log_kind(head, (size_t)len, (uint64_t)found.st_size);
+    if (len >= 0) *kind = (enum kind)zx_log_kind(head, (size_t)len, (uint64_t)found->st_size);
     return len >= 0;
 }
 
@@ -67,18 +96,20 @@ static bool open_to_know(struct zx_held_file *held, const char *log, bool *is_wr
 /* Opens the log of a file that is held. held->log is -1 if there is none, or if what has its name is no log. */
 static zx_code open_log(zx_file *file, struct zx_held_file *held) {
     char log[PATH_MAX + 8];
-    struct stat found;
+    struct stat found, opened;
     enum kind kind;
     bool is_writable;
     held->has_records = false;
     if (!name_log(held->name, log)) return ZX_DONE;
     // most files have none: to find that out without the list takes a third of the instructions
     if (fstatat(held->folder, log, &found, AT_SYMLINK_NOFOLLOW) != 0) return is_no_log(errno) ? (zx_code)ZX_DONE : fault(file);
-    if (!S_ISREG(found.st_mode)) return ZX_DONE;
+    if (!S_ISREG(found.st_mode) || !does_log_count(held, &found)) return ZX_DONE;
     if (!open_to_know(held, log, &is_writable)) return is_no_log(errno) ? (zx_code)ZX_DONE : fault(file);
-    if (!find_kind(held->log, &kind)) return fault(file);
+    if (fstat(held->log, &opened) != 0 || !find_kind(held->log, &opened, &kind)) return fault(file);
+    if (!is_same(&found, &opened)) return faulty(file, ZX_FILE_REPLACED, ESTALE);
     held->has_records = kind == RECORDS;
     if (kind == FOREIGN) close_listed(&held->log);
+    else if (is_writable) narrow_log(held, &opened);
     return kind == FOREIGN || is_writable || held->state == READ ? (zx_code)ZX_DONE : faulty(file, ZX_FILE_FAULT, EACCES);
 }
 
@@ -146,14 +177,11 @@ static zx_code has_head(zx_file *file, int from, const uint8_t *before, size_t l
 
 /* Reads a log that another process may write. Leaves `log` without bytes if the log has no record, or is none. Returns
    ZX_FILE_IN_USE if the other process emptied the log during the read, so that the bytes may come from two logs. */
-static zx_code read_log(zx_file *file, int from, struct image *log) {
-    struct stat found;
+static zx_code read_log(zx_file *file, int from, const struct stat *found, struct image *log) {
     uint8_t before[HEAD];
-    *log = (struct image){ NULL, 0 };
-    if (fstat(from, &found) != 0) return fault(file);
-    ssize_t head = S_ISREG(found.st_mode) ? read_at(from, before, HEAD, 0) : 0;
+    ssize_t head = read_at(from, before, HEAD, 0);
     if (head < 0) return fault(file);
-    if (zx_log_kind(before, (size_t)head, (uint64_t)found.st_size) != RECORDS) return ZX_DONE;
+    if (zx_log_kind(before, (size_t)head, (uint64_t)found->st_size) != RECORDS) return ZX_DONE;
     zx_code code = read_records(file, from, log);
     if (code == ZX_DONE) code = has_head(file, from, before, (size_t)head, log);
     if (code != ZX_DONE) free_image(log);

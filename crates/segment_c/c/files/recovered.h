@@ -244,17 +244,27 @@ static zx_code read_with_log(zx_file *file, int from, const struct image *log, u
     return code;
 }
 
+/* Returns true if a log may have the name that could not be opened. Links and sockets are not opened, and are no logs. */
+static bool may_be_log(const char *name, const struct stat *own) {
+    int error = errno;
+    struct stat found;
+    bool is_none = is_no_log(error) || (lstat(name, &found) == 0 && !(S_ISREG(found.st_mode) && does_count(own, &found, AT_FDCWD, name)));
+    errno = error;
+    return !is_none;
+}
+
 /* Opens and reads the log of the file at `path`. Leaves `log` without bytes if the file has no log, or the log has no
    record. */
-static zx_code log_of(zx_file *file, const char *path, struct image *log) {
+static zx_code log_of(zx_file *file, const char *path, const struct stat *own, struct image *log) {
     char name[PATH_MAX + 8];
+    struct stat found;
     *log = (struct image){ NULL, 0 };
     if (!name_log(path, name)) return ZX_DONE;
     int from = open(name, O_RDONLY | O_NONBLOCK | O_NOCTTY | O_CLOEXEC | O_NOFOLLOW);
-    // a link and a socket, which are no logs, are not opened
-    bool is_none = from < 0 && (is_no_log(errno) || errno == ELOOP || errno == ENXIO);
-    if (from < 0) return is_none ? (zx_code)ZX_DONE : errno == EINTR ? (zx_code)AGAIN : fault(file);
-    zx_code code = read_log(file, from, log);
+    if (from < 0) return errno == EINTR ? (zx_code)AGAIN : may_be_log(name, own) ? fault(file) : (zx_code)ZX_DONE;
+    zx_code code = fstat(from, &found) == 0 ? ZX_DONE : fault(file);
+    bool is_log = code == ZX_DONE && S_ISREG(found.st_mode) && does_count(own, &found, AT_FDCWD, path);
+    if (is_log) code = read_log(file, from, &found, log);
     close(from);
     return code;
 }

@@ -1569,6 +1569,8 @@ static void bytes_of_logs(void) {
     IS(log[4096], 60);
     IS(zx_log_kind(log, 4144, 12288), 2);
     IS(zx_log_kind((const uint8_t *)"my notes", 8, 8), 0);
+    IS(zx_log_counts(1, 2, 0644, 1, 2, 0644, 1, 2, 01777, 3), 1);
+    IS(zx_log_counts(1, 2, 0644, 4, 2, 0644, 1, 2, 01777, 3), 0);
     uint8_t found[64] = { 0 };
     uint64_t len = 0, end = 0, mark = 0, after = 0;
     memcpy(found, base, 32);

@@ -629,6 +629,79 @@ static void a_limit(void) {
     IS(names_in_room(), 0);
 }
 
+/* ---- whose the log is */
+
+enum { ALICE = 1001, BOB = 1002, STAFF = 2000 };
+
+static int64_t found_by_alice;
+
+/* What Alice finds, and whether she can commit. */
+static void as_alice(void) {
+    zx_file file = ZX_CLOSED_FILE;
+    const int64_t wanted = found_by_alice;
+    if (setgid(STAFF) != 0 || setuid(ALICE) != 0) _exit(0);
+    IS(found(path), wanted);
+    DONE(zx_file_open(&file, path, ZX_OPEN_READ_ONLY | ZX_MAPPED, 0));
+    IS(number(&file), wanted);
+    zx_file_discard(&file);
+    DONE(zx_file_open(&file, path, ZX_OPEN_ONLY | ZX_DURABLE, 0));
+    IS(number(&file), wanted);
+    set(&file, 3);
+    IS(zx_file_commit(&file), wanted == 2 ? ZX_DONE : ZX_FILE_LOG_IN_THE_WAY);
+    zx_file_discard(&file);
+}
+
+/* A log counts only if nobody can have made it, or may write it, who may not write the file. */
+static void the_owner_of_a_log(void) {
+    static const struct {
+        uid_t owner;
+        mode_t file, log, folder;
+        bool counts;
+    } rows[] = { { ALICE, 0644, 0644, 0777, true },  { 0, 0644, 0644, 0777, true },     { BOB, 0644, 0644, 01777, false },
+                 { BOB, 0664, 0664, 0777, false },   { BOB, 0664, 0664, 0775, true },   { BOB, 0644, 0644, 0775, false },
+                 { ALICE, 0644, 0666, 0777, false }, { ALICE, 0644, 0664, 0777, false }, { ALICE, 0664, 0664, 0777, true } };
+    if (geteuid() != 0) return;
+    IS(chown(room, ALICE, STAFF), 0);
+    for (size_t i = 0; i < sizeof rows / sizeof *rows; i++) {
+        char row[40];
+        snprintf(row, sizeof row, "row %zu", i);
+        told = row;
+        make(path, 1, 4096);
+        commit(path, 2);
+        IS(chown(path, ALICE, STAFF) | chown(log_path, rows[i].owner, STAFF), 0);
+        IS(chmod(path, rows[i].file) | chmod(log_path, rows[i].log) | chmod(room, rows[i].folder), 0);
+        found_by_alice = rows[i].counts ? 2 : 1;
+        if (rows[i].owner == 0) IS(chmod(log_path, 0664) | chmod(path, 0664), 0);
+        IS(in_child(as_alice), 0);
+        unlink(path), unlink(log_path);
+    }
+    told = "";
+    IS(chown(room, 0, 0) | chmod(room, 0700), 0);
+}
+
+/* A log grants no more than its file does, also where the file's rights became fewer beside it. */
+static void the_rights_of_a_log(void) {
+    zx_file file = ZX_CLOSED_FILE;
+    struct stat own;
+    make(path, 1, 4096);
+    IS(chmod(path, 0755), 0);
+    commit(path, 2);
+    IS(stat(log_path, &own), 0);
+    IS(own.st_mode & 07777, 0644);
+    IS(chmod(path, 0600), 0);
+    DONE(zx_file_open(&file, path, ZX_OPEN_ONLY | ZX_DURABLE, 0));
+    IS(stat(log_path, &own), 0);
+    IS(own.st_mode & 07777, 0600);
+    IS(chmod(path, 0640) | chmod(log_path, 0600), 0);
+    set(&file, 3);
+    DONE(zx_file_commit(&file));
+    IS(stat(log_path, &own), 0);
+    IS(own.st_mode & 07777, 0640);
+    zx_file_discard(&file);
+    IS(found(path), 3);
+    unlink(path), unlink(log_path);
+}
+
 static uint32_t how_opened;
 
 static void opened_on_a_full_disk(void) {
@@ -736,6 +809,8 @@ int main(int count_of, char **words) {
     a_longer_file();
     a_long_log();
     a_limit();
+    the_owner_of_a_log();
+    the_rights_of_a_log();
     inside_a_transaction();
     IS(rmdir(room), 0);
     if (count_of > 2) a_full_disk(words[2]);

@@ -22,11 +22,23 @@
    between the two readings. */
 enum { READINGS = 8 };
 
+/* Reads a file once more that was found to be no image: another process may have been changing it in place. Returns
+   ZX_FILE_IN_USE if one may be still. */
+static zx_code read_locked(zx_file *file, int from, uint32_t how, zx_code code) {
+    int refused = take_lock(from, LOCK_SH);
+    if (refused == EWOULDBLOCK) return faulty(file, ZX_FILE_IN_USE, EWOULDBLOCK);
+    if (refused) return code;
+    code = read_segment(file, from, how);
+    flock(from, LOCK_UN);
+    return code;
+}
+
 /* Opens what a path leads to, and its segment with what the log says that was read before. */
 static zx_code read_path(zx_file *file, const char *path, const struct image *log, uint32_t how) {
     int from = open(path, O_RDONLY | O_NONBLOCK | O_NOCTTY | O_CLOEXEC);
     if (from < 0) return errno == ENOENT || errno == EINTR ? (zx_code)AGAIN : fault(file);
     zx_code code = log->bytes ? read_with_log(file, from, log, how) : read_segment(file, from, how);
+    if (ZX_TRUNCATED <= code && code <= ZX_ORPHAN_BLOCK && !log->bytes) code = read_locked(file, from, how, code);
     close(from);
     return code;
 }
@@ -37,7 +49,7 @@ static zx_code read_both(zx_file *file, const char *path, const struct sight *si
     char *real = sight->is_link ? realpath(path, NULL) : NULL;
     if (sight->is_link && !real)
         return errno == ENOENT ? (zx_code)AGAIN : errno == ENOMEM ? (zx_code)ZX_NO_MEMORY : fault(file);
-    zx_code code = log_of(file, real ? real : path, &log);
+    zx_code code = log_of(file, real ? real : path, &sight->found, &log);
     if (code == ZX_DONE) code = read_path(file, real ? real : path, &log, how);
     free(log.bytes);
     free(real);
@@ -79,7 +91,8 @@ static zx_code open_existing(zx_file *file, struct zx_held_file *held, struct st
     zx_code code = held->state == READ ? open_log(file, held) : settle_log(file, held, found);
     if (code != ZX_DONE) return code;
     uint64_t len = (uint64_t)found->st_size;
-    if (held->log >= 0 && len > 0) return read_recovered(file, held, len, how);
+    if (held->log >= 0 && held->has_records)
+        return len > 0 ? read_recovered(file, held, len, how) : faulty(file, ZX_FILE_LOG_FOREIGN, ESTALE);
     return way == MAPPED ? map(file, held, found, how) : read_segment(file, held->file, how);
 }
 
@@ -94,6 +107,13 @@ static zx_code open_found(zx_file *file, struct zx_held_file *held, struct stat 
     return fstat(held->file, found) == 0 ? open_durable(file, held, found) : fault(file);
 }
 
+/* Returns true if the file is longer than the image of the segment. */
+static bool is_longer_than(zx_file *file, const struct zx_held_file *held) {
+    struct stat found;
+    uint64_t size;
+    return zx_size(&file->segment, &size) == ZX_DONE && fstat(held->file, &found) == 0 && (uint64_t)found.st_size > size;
+}
+
 static zx_code open_held(zx_file *file, const char *path, uint32_t mode, uint64_t size, enum way way) {
     uint32_t how = mode == ZX_OPEN_READ_ONLY ? ZX_READ : mode == ZX_OPEN_COPY_ON_WRITE ? ZX_COPY_ON_WRITE : ZX_WRITE;
     for (int tries = 0; tries < TRIES; tries++) {
@@ -103,7 +123,9 @@ static zx_code open_held(zx_file *file, const char *path, uint32_t mode, uint64_
         if (code != ZX_DONE) return code;
         code = open_found(file, held, &found, how, size, way);
         if (code == ZX_DONE) {
-            held->saved = file->segment.changes;
+            // what follows an image in its file goes with the next save
+            bool is_longer = way == BY_COPY && is_longer_than(file, held);
+            held->saved = file->segment.changes - (is_longer ? 1 : 0);
             file->held = held;
             return ZX_DONE;
         }
@@ -138,12 +160,10 @@ zx_code zx_file_save(zx_file *file) {
     if (how != ZX_WRITE) return ZX_READ_ONLY;
     if (!file->held) return ZX_FILE_NONE;
     if (!is_own(file->held)) return faulty(file, ZX_FILE_FORKED, EPERM);
-    if (is_durable(file->held)) {
-        if (file->held->steps > 0) return faulty(file, ZX_FILE_IN_STEP, EBUSY);
-        return answered(file, save_durable(file, file->held));
-    }
+    if (file->held->steps > 0) return faulty(file, ZX_FILE_IN_STEP, EBUSY);
+    if (is_durable(file->held)) return answered(file, save_durable(file, file->held));
     if (file->held->mapped) return zx_file_flush(file);
-    if (is_saved(&file->segment, file->held)) return still_named(file, file->held);
+    if (is_saved(&file->segment, file->held)) return answered(file, sync_found(file, file->held));
     code = image_of(&file->segment, &image);
     if (code != ZX_DONE) return code;
     code = save_held(file, file->held, &image);
@@ -191,7 +211,6 @@ static zx_code put(zx_file *file, const char *path, uint32_t mode, const struct 
             if (code == ZX_DONE) code = sync_name(file, held);
         } else {
             code = settle_log(file, held, &found);
-            if (code == ZX_FILE_LOG_FOREIGN) code = drop_log(file, held);
             if (code == ZX_DONE) code = save_held(file, held, image);
         }
         abandon(held);
@@ -230,28 +249,27 @@ static void let_go(zx_file *file) {
     if (held) abandon(held);
 }
 
-/* What a close asks first of a mapped file: that it has a name, and is as long as its image. A transaction that is open
-   ends with that. */
+/* What a close asks first of a mapped file: that it has a name, and is as long as its image. */
 static zx_code end_mapped(zx_file *file, struct zx_held_file *held) {
     struct stat own;
     uint64_t size;
     if (held->state == READ || !is_own(held)) return ZX_DONE;
     if (fstat(held->file, &own) != 0) return fault(file);
     if (own.st_nlink == 0) return faulty(file, ZX_FILE_REPLACED, ESTALE);
-    if (held->steps > 0) {
-        zx_code code = share_own(file, held);
-        if (code != ZX_DONE) return code;
-        held->steps = 0;
-    }
+    if (held->steps > 0) return faulty(file, ZX_FILE_IN_STEP, EBUSY);
     bool is_long = file->segment.lent && zx_size(&file->segment, &size) == ZX_DONE && (uint64_t)own.st_size != size;
     return is_long && !set_length(held->file, size) ? fault(file) : (zx_code)ZX_DONE;
 }
 
-/* What a close does first for a file that is durable: it saves it. */
+/* What a close does first for a file that is durable: it saves it. If its changes are committed and only the file cannot
+   be replaced, as on a full disk, the next opening finds them in the log. */
 static zx_code end_durable(zx_file *file, struct zx_held_file *held) {
     if (!is_own(held) || !file->segment.at) return ZX_DONE;
     if (held->steps > 0) return faulty(file, ZX_FILE_IN_STEP, EBUSY);
-    return save_durable(file, held);
+    zx_code code = commit_all(file, held);
+    if (code != ZX_DONE) return code;
+    code = checkpoint(file, held);
+    return code == ZX_FILE_FAULT || code == ZX_NO_MEMORY ? (zx_code)ZX_DONE : code;
 }
 
 zx_code zx_file_close(zx_file *file) {

@@ -11,7 +11,7 @@
      killed, the name leads to the whole old image or the whole new one.
 
    Each call returns a code, and 0 means done. Any other code leaves segment and file as they were, unless the call says
-   otherwise. With ZX_FILE_IN_USE to ZX_FILE_IN_STEP, `error` holds an errno; otherwise it is 0. */
+   otherwise. With ZX_FILE_IN_USE to ZX_FILE_LOG_LEFT, `error` holds an errno; otherwise it is 0. */
 #ifndef ZALUXHONI_FILES_H
 #define ZALUXHONI_FILES_H
 
@@ -33,12 +33,14 @@ enum {
     ZX_FILE_PIPE = 48,      /* the path leads to a pipe or a socket */
     ZX_FILE_TOO_LARGE = 49, /* the file has more than 1073741824 bytes */
     ZX_FILE_FAULT = 50,     /* the system refused, for the reason in `error` */
-    ZX_FILE_REPLACED = 51,  /* the name leads to no file now, or to another file, which is left alone */
+    ZX_FILE_REPLACED = 51,  /* the name, or that of the log, leads to no file now, or to another file, which is left alone */
     ZX_FILE_UNSYNCED = 52,  /* saved, but the folder is not synced: a power failure may restore the old file */
     ZX_FILE_FORKED = 53,    /* the file belongs to the parent of this forked process */
     ZX_FILE_LOG_FOREIGN = 54, /* the log beside the file belongs to another file, or is damaged */
     ZX_FILE_UNSURE = 55,    /* a commit failed, and may be in the log or not: commits fail until a save is done */
-    ZX_FILE_IN_STEP = 56    /* a transaction is open */
+    ZX_FILE_IN_STEP = 56,   /* a transaction is open */
+    ZX_FILE_LOG_IN_THE_WAY = 57, /* a file that is no log has the name FILE-log, so nothing can be committed */
+    ZX_FILE_LOG_LEFT = 58   /* FILE-log has commits of a file that is gone, so none is created beside it */
 };
 
 /* How zx_file_open opens a file: the modes of the program `segment`. */
@@ -83,7 +85,8 @@ typedef struct {
 /* Opens a segment's file, or creates one with an empty segment of `size` bytes. A new file has its name when the call
    returns. The call follows a link once; later calls keep that file, even if the process changes its folder. Modes that
    save need a writable file, and lock it before they read a byte. Errors: ZX_NULL_SLICE, ZX_BAD_MODE; ZX_FILE_IS_OPEN;
-   ZX_FILE_IN_USE to ZX_FILE_FAULT; ZX_BAD_SIZE (if it creates); ZX_NO_MEMORY; ZX_TRUNCATED to ZX_ORPHAN_BLOCK. */
+   ZX_FILE_IN_USE to ZX_FILE_FAULT; ZX_FILE_LOG_FOREIGN; ZX_BAD_SIZE and ZX_FILE_LOG_LEFT (if it creates); ZX_NO_MEMORY;
+   ZX_TRUNCATED to ZX_ORPHAN_BLOCK. */
 zx_code zx_file_open(zx_file *file, const char *path, uint32_t mode, uint64_t size);
 
 /* Saves the segment in its file, unless the file has these bytes already. It does not compare the bytes if no call and
@@ -91,12 +94,13 @@ zx_code zx_file_open(zx_file *file, const char *path, uint32_t mode, uint64_t si
    file that was opened with ZX_DURABLE it commits the changes and empties the log. The new file gets the rights, the
    access control list and the user attributes of the old one, and its owner and group if the process may set them.
    Other names of the old file (hard links) keep the old image. Errors: ZX_CLOSED, ZX_READ_ONLY (opened read-only or
-   copy-on-write), ZX_FILE_NONE, ZX_NO_MEMORY, ZX_FILE_FORKED, ZX_FILE_REPLACED, ZX_FILE_FAULT; after ZX_FILE_UNSYNCED
-   it is saved. */
+   copy-on-write), ZX_FILE_NONE, ZX_NO_MEMORY, ZX_FILE_FORKED, ZX_FILE_REPLACED, ZX_FILE_FAULT, ZX_FILE_IN_STEP, and for a
+   durable file ZX_FILE_LOG_IN_THE_WAY; after ZX_FILE_UNSYNCED it is saved. After ZX_FILE_FAULT a durable file may be
+   committed, and not replaced, as on a full disk. */
 zx_code zx_file_save(zx_file *file);
 
 /* Commits the changes of a file that was opened with ZX_DURABLE. For any other file it is zx_file_flush. When it is
-   done, the changes are on the disk. Errors: those of zx_file_save; ZX_FILE_IN_STEP; ZX_FILE_UNSURE, if the system failed
+   done, the changes are on the disk. Errors: those of zx_file_save; ZX_FILE_UNSURE, if the system failed
    while it synced: then the next opening finds this commit or the one before, and each further zx_file_commit returns
    ZX_FILE_UNSURE, until zx_file_save is done. After any other error nothing is committed. */
 zx_code zx_file_commit(zx_file *file);
@@ -106,12 +110,14 @@ zx_code zx_file_commit(zx_file *file);
    segment's own file by its own name, the call is zx_file_save. If it leads to another name of that file
    (a hard link), that name gets a new file, and the own name keeps the old one; for a mapped file this too is
    zx_file_save. The segment needs no file, and may be open in any mode. Errors: ZX_NULL_SLICE, ZX_BAD_MODE, ZX_CLOSED,
-   ZX_NO_MEMORY; ZX_FILE_IN_USE to ZX_FILE_REPLACED, ZX_FILE_FORKED; after ZX_FILE_UNSYNCED it is saved. */
+   ZX_NO_MEMORY; ZX_FILE_IN_USE to ZX_FILE_REPLACED, ZX_FILE_FORKED, ZX_FILE_LOG_FOREIGN, ZX_FILE_LOG_LEFT; after
+   ZX_FILE_UNSYNCED it is saved. */
 zx_code zx_file_save_as(zx_file *file, const char *path, uint32_t mode);
 
 /* Saves as zx_file_save does, if the file is open for writing, and closes it. A mapped file is cut to the length of its
-   image instead. Returns the code of the save. After ZX_FILE_UNSYNCED the file is saved and closed; after any other
-   error it is still open. */
+   image instead. A durable file whose changes are committed is closed also if it cannot be replaced: the next opening
+   finds them in the log. Returns the code of the save. After ZX_FILE_UNSYNCED the file is saved and closed; after any
+   other error it is still open. */
 zx_code zx_file_close(zx_file *file);
 
 /* Closes without saving. Removes a file that zx_file_open created and nobody saved. A mapped file stays, with all
@@ -152,8 +158,8 @@ typedef struct {
    ZX_FILE_FAULT and ZX_NO_MEMORY). After ZX_FILE_UNSURE the step is ended; after any other error it is still
    open. zx_file_undo restores the segment and ends the step. Its errors are those of zx_file_rollback.
 
-   While a step is open, its changes are in no file, and zx_file_commit, zx_file_save and zx_file_close of a durable
-   file return ZX_FILE_IN_STEP. Errors of zx_file_begin: ZX_CLOSED, ZX_READ_ONLY, ZX_NO_MEMORY and ZX_FILE_FAULT. */
+   While a step is open, its changes are in no file, and zx_file_commit, zx_file_flush, zx_file_save and zx_file_close
+   return ZX_FILE_IN_STEP. Errors of zx_file_begin: ZX_CLOSED, ZX_READ_ONLY, ZX_NO_MEMORY and ZX_FILE_FAULT. */
 zx_code zx_file_begin(zx_file *file, zx_step *before);
 zx_code zx_file_keep(zx_file *file, zx_step *before);
 zx_code zx_file_undo(zx_file *file, zx_step *before);
@@ -180,6 +186,16 @@ zx_code zx_log_edit(uint64_t offset, const uint8_t *bytes, size_t len, uint8_t *
 /* Writes what stands behind the gate of a record: the length of the payload, the payload, and the next gate, shut.
    Errors: ZX_TOO_LARGE, if the payload has more than 2^40 bytes. */
 zx_code zx_log_body(const uint8_t *payload, size_t len, uint8_t *body, size_t room);
+
+/* Says whose a log is, by the first 4144 bytes of it, or all if it has fewer, and its length: 0 for a file of somebody
+   else, 1 for a log without a record, 2 for a log with records. */
+uint32_t zx_log_kind(const uint8_t *head, size_t head_len, uint64_t len);
+
+/* Says whether a log counts beside a file in a folder, by their owners, groups and modes: 1 if nobody but its owner, the
+   file's, root or the caller can have made or may write it who may not write the file; otherwise 0. */
+uint32_t zx_log_counts(uint32_t file_owner, uint32_t file_group, uint32_t file_mode, uint32_t log_owner,
+                       uint32_t log_group, uint32_t log_mode, uint32_t folder_owner, uint32_t folder_group,
+                       uint32_t folder_mode, uint32_t caller);
 
 /* Writes a gate, of 4096 bytes. */
 zx_code zx_log_gate(bool is_open, uint8_t *gate, size_t room);

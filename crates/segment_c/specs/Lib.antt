@@ -15,6 +15,7 @@ pub mod Opening
 pub mod Passed
 pub mod Reads
 pub mod Resizing
+pub mod Rights
 pub mod Series
 pub mod Transactions
 pub mod Views

@@ -19,6 +19,7 @@ mod pair_series;
 mod ranges;
 mod reading;
 mod resizing;
+mod rights;
 mod slices;
 mod slot;
 mod storage;

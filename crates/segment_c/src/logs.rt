@@ -1,15 +1,15 @@
 //! The bytes of the log beside a file: C makes and reads them by these calls alone.
 ghost use Rattle.std.specs.Prelude.{◌≡◌, ◌≤◌, ◌<◌, ◌++◌, ◌^◌, MatchResult, length};
-ghost use Rattle.segment_log.specs.{Records.body_at, Records.number_bytes, Records.recovered, Tags.tag_text};
+ghost use Rattle.segment_log.specs.{Records.record_body, Records.number_bytes, Records.recovered, Tags.tag_text};
 ghost use Rattle.segment_log.specs.Fingerprints.{fingerprint, page_mark};
 ghost use Rattle.segment_log.specs.Edits.{Holds, edit_text, most_len};
-ghost use Rattle.segment_c.specs.Logs.{OpensWithLog, WritesOut, gate_of};
+ghost use Rattle.segment_c.specs.Logs.{OpensWithLog, TellsKindAsCode, WritesOut, gate_of};
 
 use crate::codes::{DONE, LOG_FOREIGN, NO_MEMORY, SHORT_BUFFER, TOO_LARGE};
 use crate::images::copy_out;
 use segment_log::{
-    MAX_LOG_LEN, begin_payload, edit_head, fingerprint, most_len, open_gate, page_mark,
-    record_body, recover_within, shut_gate,
+    LogKind, MAX_LOG_LEN, begin_payload, edit_head, fingerprint, log_kind, most_len, open_gate,
+    page_mark, record_body, recover_within, shut_gate,
 };
 use std::alloc::{AllocError, Global};
 
@@ -77,7 +77,7 @@ pub extern "C" fn zx_log_edit(at: u64, bytes: &[u8], out: &mut [u8]) -> u32
 /// Writes what stands behind the gate of a record: the length of the payload, the payload, and the next gate, shut.
 #[unsafe(no_mangle)]
 pub extern "C" fn zx_log_body(alloc: Global, payload: &[u8], out: &mut [u8]) -> u32
-    ensures output { length payload.now ≤ 2 ^ 40 → WritesOut (body_at 4096 payload.now) out.old out.new result }
+    ensures output { length payload.now ≤ 2 ^ 40 → WritesOut (record_body payload.now) out.old out.new result }
     ensures size { 2 ^ 40 < length payload.now → (result ≡ 29) × (out.new ≡ out.old) }
 {
     if payload.len() > MAX_LOG_LEN {
@@ -97,6 +97,19 @@ pub extern "C" fn zx_log_gate(alloc: Global, is_open: bool, out: &mut [u8]) -> u
         shut_gate(alloc)
     };
     write_out(gate, out)
+}
+
+/// Tells what a file under the name of a log is, by its first 4144 bytes, or all if it has fewer, and by its length: 0
+/// for a file of somebody else, 1 for a log without a record, 2 for a log with a record.
+#[unsafe(no_mangle)]
+pub extern "C" fn zx_log_kind(head: &[u8], len: u64) -> u32
+    ensures { TellsKindAsCode head.now len result }
+{
+    match log_kind(head, len) {
+        LogKind::Foreign => 0,
+        LogKind::Empty => 1,
+        LogKind::Records => 2,
+    }
 }
 
 /// Returns the most bytes that an image has while the records of a log are applied to a file of `len` bytes.

@@ -11,7 +11,8 @@ static bool map_private(struct zx_held_file *held, uint64_t file_len, uint64_t l
     pthread_mutex_lock(&guard);
     uint8_t *at = mmap(NULL, room, PROT_NONE, flags, -1, 0);
     bool is_mapped = at != MAP_FAILED && mmap(at, end, protection, flags | MAP_FIXED, -1, 0) == at &&
-                     mmap(at, from_file, protection, MAP_PRIVATE | MAP_FIXED, held->file, 0) == at;
+                     mmap(at, from_file, protection, MAP_PRIVATE | MAP_FIXED, held->file, 0) == at &&
+                     cover_holes(held->file, at, from_file, protection);
     if (is_mapped) {
         held->at = at;
         held->len = len;
@@ -253,12 +254,14 @@ static zx_code end_record(struct commits *commits, struct record *record) {
     return code == ZX_DONE ? zx_log_gate(false, bytes + gate, GATE) : code;
 }
 
+static uint8_t *map_to_read(int file, uint64_t len);
+
 /* Computes the fingerprint of the file, if it is not known yet. The log's tags name the file by it. */
 static zx_code mark_base(zx_file *file, struct zx_held_file *held) {
     struct commits *commits = held->commits;
     if (commits->is_marked) return ZX_DONE;
-    uint8_t *at = mmap(NULL, commits->len, PROT_READ, MAP_SHARED, held->file, 0);
-    if (at == MAP_FAILED) return fault(file);
+    uint8_t *at = map_to_read(held->file, commits->len);
+    if (!at) return fault(file);
     commits->base = commits->after = zx_log_fingerprint(at, commits->len);
     munmap(at, commits->len);
     commits->is_marked = true;
@@ -271,30 +274,101 @@ static bool write_gate(const struct zx_held_file *held, bool is_open, uint64_t a
     return zx_log_gate(is_open, gate, sizeof gate) == ZX_DONE && write_at(held->log, gate, sizeof gate, (off_t)at);
 }
 
-/* Creates the log with the rights of its file, and syncs both names. */
-static zx_code make_log(zx_file *file, struct zx_held_file *held) {
-    char log[PATH_MAX + 8];
+/* Fills a new log, which gets its name when it is on the disk, with records, a shut gate, and the rights of the file, but
+   not to execute it. */
+static bool fill_log(struct zx_held_file *held, const struct image *log, uint64_t end) {
     struct stat old;
-    enum state state = held->state;
-    if (!name_log(held->name, log) || fstat(held->file, &old) != 0) return fault(file);
-    if (!open_listed(&held->log, held->folder, log, O_RDWR | O_CREAT | O_EXCL | O_NOFOLLOW, 0600)) return fault(file);
-    if (take_all_but_bytes(held->log, held->file, &old) && write_gate(held, false, 0) && sync_log(held->log)) {
-        zx_code code = sync_name(file, held);
-        if (code == ZX_DONE) return code;
+    uint8_t gate[GATE];
+    if (fstat(held->file, &old) != 0) return false;
+    old.st_mode &= ~(mode_t)07111;
+    return take_all_but_bytes(held->made, held->file, &old) &&
+           zx_log_gate(false, gate, sizeof gate) == ZX_DONE && (end == 0 || write_at(held->made, log->bytes, end, 0)) &&
+           write_at(held->made, gate, sizeof gate, (off_t)end) && sync_one(held->made);
+}
+
+/* Gives a new log its name, which nothing has. On a file system without links it is renamed. */
+static bool name_new(const struct zx_held_file *held, const char *spare, const char *log) {
+    struct stat found;
+    if (linkat(held->folder, spare, held->folder, log, 0) == 0) {
+        remove_own(held->folder, spare, held->made);
+        return true;
     }
-    zx_code code = fault(file);
-    held->state = state;
-    unlinkat(held->folder, log, 0);
-    close_listed(&held->log);
+    if (errno == EEXIST || fstatat(held->folder, log, &found, AT_SYMLINK_NOFOLLOW) == 0) return errno = EEXIST, false;
+    return renameat(held->folder, spare, held->folder, log) == 0;
+}
+
+/* Gives a new log the name, in place of the old log if one is open. Fails with ESTALE if the name of the file or of the
+   log leads to another file by now. */
+static bool place_log(const struct zx_held_file *held, const char *spare, const char *log) {
+    bool is_there = is_named(held->folder, held->name, held->file) &&
+                    (held->log < 0 || is_named(held->folder, log, held->log));
+    if (!is_there) return errno = ESTALE, false;
+    return held->log < 0 ? name_new(held, spare, log) : renameat(held->folder, spare, held->folder, log) == 0;
+}
+
+/* Installs the new log as the open one. */
+static void take_log_made(struct zx_held_file *held) {
+    pthread_mutex_lock(&guard);
+    int before = held->log;
+    held->log = held->made;
+    held->made = before;
+    if (held->commits) held->commits->room = 0;
+    pthread_mutex_unlock(&guard);
+    close_listed(&held->made);
+}
+
+/* Makes a new log that has the records of `log` up to `end`, or none; on the disk, with its name. It takes the place of
+   the log that is open, if one is: a sync of that one may have failed, so that its bytes can be read, but are not on the
+   disk. Otherwise nothing may have the name. */
+static zx_code renew_log(zx_file *file, struct zx_held_file *held, const struct image *log, uint64_t end) {
+    char name[PATH_MAX + 8], spare[40];
+    struct stat found;
+    if (!name_log(held->name, name)) return fault(file);
+    spare_name(spare, name, 0);
+    if (held->log < 0 && fstatat(held->folder, name, &found, AT_SYMLINK_NOFOLLOW) == 0)
+        return faulty(file, ZX_FILE_LOG_IN_THE_WAY, EEXIST);
+    if (unlinkat(held->folder, spare, 0) != 0 && errno != ENOENT) return fault(file);
+    int how = O_RDWR | O_CREAT | O_EXCL | O_NOFOLLOW;
+    if (!open_listed(&held->made, held->folder, spare, how, 0600)) return fault(file);
+    if (fill_log(held, log, end) && place_log(held, spare, name)) {
+        take_log_made(held);
+        return synced(sync_name(file, held));
+    }
+    int error = errno;
+    remove_own(held->folder, spare, held->made);
+    close_listed(&held->made);
+    if (error == EEXIST) return faulty(file, ZX_FILE_LOG_IN_THE_WAY, error);
+    return faulty(file, error == ESTALE ? ZX_FILE_REPLACED : ZX_FILE_FAULT, error);
+}
+
+/* Reads the records of the open log again, as they were when they were read first. Fails with EIO if they are not. */
+static bool read_again(const struct zx_held_file *held, uint64_t mark, struct image *log) {
+    *log = room_for(held->commits->end);
+    if (!log->bytes) return false;
+    ssize_t got = read_at(held->log, log->bytes, log->len, 0);
+    if (got < 0) return false;
+    bool is_same = (uint64_t)got == log->len && zx_log_fingerprint(log->bytes, log->len) == mark;
+    return is_same || (errno = EIO, false);
+}
+
+/* Replaces the open log by a copy, which has no second name. */
+static zx_code copy_log(zx_file *file, struct zx_held_file *held) {
+    struct image log = room_for(held->commits->end);
+    bool is_read = log.bytes && read_at(held->log, log.bytes, log.len, 0) == (ssize_t)log.len;
+    zx_code code = is_read ? renew_log(file, held, &log, log.len) : fault(file);
+    free_image(&log);
     return code;
 }
 
-/* Makes the log ready for a record: it exists under its name, and ends with a shut gate that is on the disk. */
+/* Makes the log ready for a record: its name leads to it and to nothing else, and it ends with a shut gate that is on the
+   disk. If it has a second name, this session writes into a copy. */
 static zx_code ready_log(zx_file *file, struct zx_held_file *held) {
-    struct stat found;
-    if (held->log < 0) return make_log(file, held);
-    if (fstat(held->log, &found) != 0) return fault(file);
-    if (found.st_nlink == 0) return faulty(file, ZX_FILE_REPLACED, ESTALE);
+    char log[PATH_MAX + 8];
+    struct stat own;
+    if (held->log < 0) return renew_log(file, held, NULL, 0);
+    if (!name_log(held->name, log) || fstat(held->log, &own) != 0) return fault(file);
+    if (!leads_to(held->folder, log, &own)) return faulty(file, ZX_FILE_REPLACED, ESTALE);
+    if (own.st_nlink > 1) return copy_log(file, held);
     return held->state == SAVED ? (zx_code)ZX_DONE : synced(sync_name(file, held));
 }
 
@@ -308,7 +382,7 @@ static uint64_t longest_log(const struct commits *commits) {
 static void allot_log(struct zx_held_file *held, uint64_t end) {
     struct commits *commits = held->commits;
     uint64_t step = (longest_log(commits) / 8 / GATE + 1) * GATE, room = (end / step + 1) * step;
-    if (end > commits->room && fallocate(held->log, 0, 0, (off_t)room) == 0) commits->room = room;
+    if (end > commits->room && is_within_limit(room) && fallocate(held->log, 0, 0, (off_t)room) == 0) commits->room = room;
 }
 
 /* Adds the record to the log. If a call fails after the record is written, the record may count or not. */
@@ -345,59 +419,32 @@ static void note_record(const zx_file *file, struct zx_held_file *held, const st
     held->saved = file->segment.changes;
 }
 
-/* Removes the log, which counts no more. If another file has taken the name, the log under it is that file's, and stays. */
+/* Empties the log by shutting its first gate. The file has the log's image already. */
+static zx_code empty_log(zx_file *file, struct zx_held_file *held) {
+    if (write_gate(held, false, 0) && sync_log(held->log)) return ZX_DONE;
+    if (held->commits) held->commits->is_unsure = true;
+    return fault(file);
+}
+
+/* Removes the log, which counts no more. What has its name by now, or the file's, is another's, and stays with its log. */
 static bool remove_log(struct zx_held_file *held) {
     char log[PATH_MAX + 8];
-    struct stat own, named;
-    if (!name_log(held->name, log) || fstat(held->file, &own) != 0) return false;
-    bool is_named = fstatat(held->folder, held->name, &named, AT_SYMLINK_NOFOLLOW) == 0;
-    if (!is_named && errno != ENOENT) return false;
-    bool is_taken = is_named && !is_same(&own, &named);
-    if (!is_taken && unlinkat(held->folder, log, 0) != 0 && errno != ENOENT) return false;
+    struct stat own;
+    if (held->log < 0) return true;
+    if (!name_log(held->name, log) || fstat(held->log, &own) != 0) return false;
+    bool is_theirs = is_taken(held) || !leads_to(held->folder, log, &own);
+    if (!is_theirs && unlinkat(held->folder, log, 0) != 0 && errno != ENOENT) return false;
     close_listed(&held->log);
     if (held->commits) held->commits->room = 0;
     return true;
 }
 
-/* Removes the log and syncs the folder, since the log's bytes on the disk may differ from those that were read. */
+/* Ends the open log, which counts no more: shuts its first gate, removes it and syncs the folder. After a power cut a log
+   that was removed may be there again, with the gate that is on the disk. */
 static zx_code end_name(zx_file *file, struct zx_held_file *held) {
+    zx_code code = held->log >= 0 ? empty_log(file, held) : (zx_code)ZX_DONE;
+    if (code != ZX_DONE) return code;
     return remove_log(held) ? synced(sync_name(file, held)) : fault(file);
-}
-
-/* Fills a new log with the records of the old one, up to their end, and with its rights. */
-static bool copy_log(struct zx_held_file *held, uint64_t end) {
-    struct stat old;
-    struct image log = room_for(end + GATE);
-    bool is_done = log.bytes && fstat(held->log, &old) == 0 &&
-                   read_at(held->log, log.bytes, end, 0) == (ssize_t)end &&
-                   zx_log_gate(false, log.bytes + end, GATE) == ZX_DONE &&
-                   take_all_but_bytes(held->made, held->log, &old) && write_at(held->made, log.bytes, log.len, 0) &&
-                   sync_one(held->made);
-    int error = errno;
-    free(log.bytes);
-    errno = error;
-    return is_done;
-}
-
-/* Replaces a log that another process left by a synced copy. A sync of the old log may have failed: then its bytes can
-   be read, but are not on the disk. */
-static zx_code renew_log(zx_file *file, struct zx_held_file *held, uint64_t end) {
-    char log[PATH_MAX + 8], spare[40];
-    if (!name_log(held->name, log)) return fault(file);
-    spare_name(spare, log, 0);
-    if (unlinkat(held->folder, spare, 0) != 0 && errno != ENOENT) return fault(file);
-    int how = O_RDWR | O_CREAT | O_EXCL | O_NOFOLLOW;
-    if (!open_listed(&held->made, held->folder, spare, how, 0600)) return fault(file);
-    bool is_done = copy_log(held, end) && renameat(held->folder, spare, held->folder, log) == 0;
-    zx_code code = is_done ? ZX_DONE : fault(file);
-    if (!is_done) unlinkat(held->folder, spare, 0);
-    pthread_mutex_lock(&guard);
-    int before = held->log;
-    if (is_done) held->log = held->made, held->made = before;
-    if (is_done && held->commits) held->commits->room = 0;
-    pthread_mutex_unlock(&guard);
-    close_listed(&held->made);
-    return is_done ? synced(sync_name(file, held)) : code;
 }
 
 /* Replaces the file by the last commit that is certain, and removes the log, whose last record may count or not. */
@@ -411,7 +458,8 @@ static zx_code end_log(zx_file *file, struct zx_held_file *held) {
     if (code == ZX_DONE && commits->end > 0) code = synced(replace(file, held, &image));
     free(image.bytes);
     if (code != ZX_DONE) return code;
-    code = end_name(file, held);
+    (void)empty_log(file, held);
+    code = remove_log(held) ? synced(sync_name(file, held)) : fault(file);
     if (code != ZX_DONE) return code;
     commits->is_unsure = false;
     commits->base = commits->after;
@@ -422,19 +470,16 @@ static zx_code end_log(zx_file *file, struct zx_held_file *held) {
 /* Takes over a log that another process left: replaces it by a copy, or removes it if it has no record. */
 static zx_code take_log(zx_file *file, struct zx_held_file *held) {
     struct commits *commits = held->commits;
+    struct image log;
     if (!commits->is_left) return ZX_DONE;
-    zx_code code = commits->end > 0 ? renew_log(file, held, commits->end) : end_name(file, held);
+    zx_code code = ZX_DONE;
+    if (commits->end == 0) {
+        code = end_name(file, held);
+    } else {
+        code = read_again(held, commits->left, &log) ? renew_log(file, held, &log, commits->end) : fault(file);
+        free_image(&log);
+    }
     if (code == ZX_DONE) commits->is_left = false;
-    return code;
-}
-
-/* Syncs the file and its folder as the opening found them. Another process may have written or replaced the file, or
-   removed a log, without a sync: then a commit that has nothing to write could be lost. */
-static zx_code sync_found(zx_file *file, struct zx_held_file *held) {
-    if (held->commits->is_synced) return ZX_DONE;
-    if (!sync_one(held->file)) return fault(file);
-    zx_code code = synced(sync_name(file, held));
-    held->commits->is_synced = code == ZX_DONE;
     return code;
 }
 
@@ -442,8 +487,7 @@ static zx_code sync_found(zx_file *file, struct zx_held_file *held) {
 static zx_code commit_pages(zx_file *file, struct zx_held_file *held) {
     struct record record = { 0 };
     if (held->commits->is_unsure) return faulty(file, ZX_FILE_UNSURE, EIO);
-    zx_code code = still_named(file, held);
-    if (code == ZX_DONE) code = sync_found(file, held);
+    zx_code code = synced(sync_found(file, held));
     if (code == ZX_DONE) code = take_log(file, held);
     if (code != ZX_DONE || is_committed(file)) return code;
     code = find_record(file, held, &record);
@@ -472,19 +516,13 @@ static zx_code commit_pages(zx_file *file, struct zx_held_file *held) {
 #define MADV_POPULATE_READ 22
 #endif
 
-/* Empties the log by shutting its first gate. The file has the log's image already. */
-static zx_code empty_log(zx_file *file, struct zx_held_file *held) {
-    if (write_gate(held, false, 0) && sync_log(held->log)) return ZX_DONE;
-    if (held->commits) held->commits->is_unsure = true;
-    return fault(file);
-}
-
 /* Maps the file that has the committed image, so that no page is own any more. */
 static void map_committed(struct zx_held_file *held) {
     struct commits *commits = held->commits;
     int protection = PROT_READ | PROT_WRITE;
     held->is_watched = false;
     if (mmap(held->at, commits->len, protection, MAP_PRIVATE | MAP_FIXED, held->file, 0) == MAP_FAILED) return;
+    (void)cover_holes(held->file, held->at, commits->len, protection);
     free_pages(commits, 0, pages_of(held->len));
 }
 
@@ -516,10 +554,15 @@ static void shorten_log(zx_file *file, struct zx_held_file *held) {
     file->error = 0;
 }
 
+/* Commits. If a commit before may be in the log or not, begins a new log. */
+static zx_code commit_all(zx_file *file, struct zx_held_file *held) {
+    zx_code code = held->commits->is_unsure ? end_log(file, held) : (zx_code)ZX_DONE;
+    return code == ZX_DONE ? commit_pages(file, held) : code;
+}
+
 /* Commits, and makes a checkpoint. */
 static zx_code save_durable(zx_file *file, struct zx_held_file *held) {
-    zx_code code = held->commits->is_unsure ? end_log(file, held) : (zx_code)ZX_DONE;
-    if (code == ZX_DONE) code = commit_pages(file, held);
+    zx_code code = commit_all(file, held);
     return code == ZX_DONE ? checkpoint(file, held) : code;
 }
 

@@ -53,11 +53,6 @@ static zx_code keep(const char *path, struct zx_held_file **found) {
     return *found ? ZX_DONE : ZX_NO_MEMORY;
 }
 
-static const char *last_name(const char *path) {
-    const char *slash = strrchr(path, '/');
-    return slash ? slash + 1 : path;
-}
-
 /* Opens the folder of a path, and keeps its last name. */
 static zx_code find(zx_file *file, const char *path, struct zx_held_file **found) {
     const char *name = last_name(path);

@@ -29,7 +29,8 @@ enum { AGAIN = 1 };
 
 /* The state of a held file. */
 enum state {
-    SAVED,    /* under its name since it was opened, or since it was saved */
+    FOUND,    /* as it was opened: another process may have written, named or renamed it without a sync */
+    SAVED,    /* its bytes and its name are on the disk */
     NEW,      /* created and never saved: who discards it removes it */
     UNSYNCED, /* saved, but the folder was not synced */
     READ      /* mapped and never changed: others may map it too */
@@ -42,9 +43,10 @@ struct zx_held_file {
     uint8_t *at;               /* the mapping, of `len` bytes, or null: it keeps the lock as a descriptor does */
     uint64_t len;
     uint64_t room;             /* the bytes of addresses that the mapping has, if they are more than `len`; or 0 */
-    unsigned steps;            /* open transactions that keep pages */
+    unsigned steps;            /* open transactions */
     struct commits *commits;   /* of a file that is durable, or null */
     int log;                   /* the log beside the file; -1 if none is open */
+    bool has_records;          /* whether the log had records when it was opened */
     int watch;                 /* by which the system notes the pages that are written; -1 if there is none */
     bool is_watched;           /* whether it does so for each page of the mapping */
     unsigned forks;            /* of the process that opened it */
@@ -72,7 +74,7 @@ static zx_code fault(zx_file *file) { return faulty(file, ZX_FILE_FAULT, errno);
 
 /* Returns the code of a call. Only codes of files come with an errno. */
 static zx_code answered(zx_file *file, zx_code code) {
-    if (code < ZX_FILE_IN_USE || code > ZX_FILE_IN_STEP) file->error = 0;
+    if (code < ZX_FILE_IN_USE || code > ZX_FILE_LOG_LEFT) file->error = 0;
     return code;
 }
 
@@ -81,8 +83,10 @@ void zx_file_words(zx_code code, zx_text *words) {
         "no file", "file is open", "file in use", "file exists", "no such file", "link leads to nothing", "is a folder",
         "is a device", "is a pipe", "file too large", "file fault", "file was replaced", "saved, but folder not synced",
         "file of another process", "log of another file", "commit may be saved or not", "transaction is open",
+        "FILE-log is in the way, and is no log: move or remove it",
+        "FILE-log has commits of a file that is gone: put FILE back, or remove FILE-log",
     };
-    if (ZX_FILE_NONE <= code && code <= ZX_FILE_IN_STEP) {
+    if (ZX_FILE_NONE <= code && code <= ZX_FILE_LOG_LEFT) {
         words->at = (const uint8_t *)all[code - ZX_FILE_NONE];
         words->len = strlen(all[code - ZX_FILE_NONE]);
     } else {
@@ -91,7 +95,7 @@ void zx_file_words(zx_code code, zx_text *words) {
 }
 
 const char *zx_message(zx_code code) {
-    static _Thread_local char message[64];
+    static _Thread_local char message[128];
     zx_text words;
     zx_file_words(code, &words);
     (void)snprintf(message, sizeof message, "%.*s", (int)words.len, (const char *)words.at);
@@ -232,6 +236,20 @@ static bool leads_to(int folder, const char *name, const struct stat *file) {
     return fstatat(folder, name, &named, AT_SYMLINK_NOFOLLOW) == 0 && is_same(&named, file);
 }
 
+/* Returns true if a name leads to this open file. */
+static bool is_named(int folder, const char *name, int file) {
+    struct stat own;
+    return fstat(file, &own) == 0 && leads_to(folder, name, &own);
+}
+
+/* Removes a name if it leads to this open file. errno stays. */
+static bool remove_own(int folder, const char *name, int file) {
+    int error = errno;
+    bool is_gone = is_named(folder, name, file) && unlinkat(folder, name, 0) == 0;
+    errno = error;
+    return is_gone;
+}
+
 /* Returns ZX_FILE_REPLACED if the name of a file that is held leads elsewhere by now, or nowhere. A mapped file, which
    keeps its bytes under any name, has lost the last one. A durable one is replaced by its name. */
 static zx_code still_named(zx_file *file, const struct zx_held_file *held) {
@@ -246,9 +264,7 @@ static zx_code still_named(zx_file *file, const struct zx_held_file *held) {
 
 /* Removes the file if it was created and never saved, and releases it. */
 static void abandon(struct zx_held_file *held) {
-    struct stat own;
-    bool is_new = held->state == NEW && is_own(held) && fstat(held->file, &own) == 0;
-    if (is_new && leads_to(held->folder, held->name, &own)) unlinkat(held->folder, held->name, 0);
+    if (held->state == NEW && is_own(held)) remove_own(held->folder, held->name, held->file);
     release(held);
 }
 
@@ -268,6 +284,11 @@ static int take_lock(int file, int how) {
 static struct image room_for(uint64_t len) {
     struct image image = { malloc(len ? len : 1), len };
     return image;
+}
+
+static void free_image(struct image *image) {
+    free(image->bytes);
+    *image = (struct image){ NULL, 0 };
 }
 
 /* Copies the image of the segment. */
@@ -295,7 +316,23 @@ static ssize_t read_at(int file, uint8_t *bytes, size_t len, off_t from) {
     return (ssize_t)count;
 }
 
+/* Returns true if the process may write so many bytes into a file (ulimit -f). The system ends one that writes more by a
+   signal. */
+static bool is_within_limit(uint64_t len) {
+    struct rlimit most;
+    if (getrlimit(RLIMIT_FSIZE, &most) != 0 || most.rlim_cur == RLIM_INFINITY || len <= most.rlim_cur) return true;
+    return errno = EFBIG, false;
+}
+
+/* Returns true if the process may give a file this length. */
+static bool may_have_length(int file, uint64_t len) {
+    struct stat found;
+    if (is_within_limit(len) || (fstat(file, &found) == 0 && (uint64_t)found.st_size >= len)) return true;
+    return errno = EFBIG, false;
+}
+
 static bool write_at(int file, const uint8_t *bytes, size_t len, off_t from) {
+    if (!is_within_limit((uint64_t)from + len)) return false;
     while (len > 0) {
         ssize_t more = pwrite(file, bytes, len, from);
         if (more < 0 && errno == EINTR) continue;
@@ -307,6 +344,7 @@ static bool write_at(int file, const uint8_t *bytes, size_t len, off_t from) {
 
 static bool set_length(int file, uint64_t len) {
     int tries = 0;
+    if (!may_have_length(file, len)) return false;
     while (ftruncate(file, (off_t)len) != 0)
         if (!is_interrupted(&tries)) return false;
     return true;
@@ -326,12 +364,46 @@ static bool sync_one(int file) {
     return true;
 }
 
+static const char *last_name(const char *path) {
+    const char *slash = strrchr(path, '/');
+    return slash ? slash + 1 : path;
+}
+
+/* Opens the folder of a path. -1 if that fails. */
+static int open_folder_of(const char *path) {
+    size_t before = (size_t)(last_name(path) - path);
+    char folder[PATH_MAX + 2];
+    if (before >= PATH_MAX) return errno = ENAMETOOLONG, -1;
+    memcpy(folder, path, before);
+    memcpy(folder + before, ".", 2);
+    return openat(AT_FDCWD, folder, O_RDONLY | O_DIRECTORY | O_CLOEXEC, 0);
+}
+
+/* Opens the folder of the held file. -1 if that fails, or if a name that is a path leads elsewhere by now. */
+static int open_its_folder(const struct zx_held_file *held) {
+    if (held->folder != AT_FDCWD) return openat(held->folder, ".", O_RDONLY | O_DIRECTORY | O_CLOEXEC, 0);
+    int folder = open_folder_of(held->name);
+    if (folder < 0 || is_named(folder, last_name(held->name), held->file)) return folder;
+    close(folder);
+    return -1;
+}
+
 /* Syncs the folder, or all of its disk if the folder may not be read. */
 static zx_code sync_name(zx_file *file, struct zx_held_file *held) {
-    int folder = openat(held->folder, ".", O_RDONLY | O_DIRECTORY | O_CLOEXEC, 0);
+    int folder = open_its_folder(held);
     bool is_synced = folder >= 0 ? sync_one(folder) : syncfs(held->file) == 0;
     int error = errno;
     if (folder >= 0) close(folder);
-    held->state = is_synced ? SAVED : UNSYNCED;
+    if (held->state != FOUND) held->state = is_synced ? SAVED : UNSYNCED;
     return is_synced ? (zx_code)ZX_DONE : faulty(file, ZX_FILE_UNSYNCED, error);
+}
+
+/* Checks that the file has its name, and syncs both once, as the opening found them: another process may have written
+   or renamed it, or removed a log, without a sync. */
+static zx_code sync_found(zx_file *file, struct zx_held_file *held) {
+    zx_code code = still_named(file, held);
+    if (code != ZX_DONE || held->state == SAVED) return code;
+    if (held->state == FOUND && !sync_one(held->file)) return fault(file);
+    if (held->state == FOUND) held->state = UNSYNCED;
+    return sync_name(file, held);
 }

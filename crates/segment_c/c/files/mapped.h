@@ -8,23 +8,43 @@ static zx_code explained(zx_file *file, zx_code code, uint64_t len) {
     return ZX_TRUNCATED;
 }
 
-/* Opens the segment of the file's bytes. */
-static zx_code read_segment(zx_file *file, int from, uint32_t how) {
+/* Returns the size in an image's header. */
+static uint64_t size_said(const uint8_t *image) { return number_at(image + 16); }
+
+/* Reads all bytes of a file. */
+static zx_code read_all(zx_file *file, int from, struct image *image) {
     struct stat found;
+    *image = (struct image){ NULL, 0 };
     if (fstat(from, &found) != 0) return fault(file);
     zx_code code = judge(file, &found);
     if (code != ZX_DONE) return code;
-    struct image image = room_for((uint64_t)found.st_size);
-    if (!image.bytes) return ZX_NO_MEMORY;
-    ssize_t len = read_at(from, image.bytes, image.len, 0);
-    if (len < 0) {
-        code = fault(file);
-    } else {
-        uint64_t capacity = len < 16 ? 16 : ((uint64_t)len + 15) / 16 * 16;
-        code = zx_open_explained(&file->segment, image.bytes, (size_t)len, capacity, how, &file->place);
-        code = explained(file, code, (uint64_t)len);
+    *image = room_for((uint64_t)found.st_size);
+    if (!image->bytes) return ZX_NO_MEMORY;
+    ssize_t len = read_at(from, image->bytes, image->len, 0);
+    if (len >= 0) image->len = (uint64_t)len;
+    return len < 0 ? fault(file) : (zx_code)ZX_DONE;
+}
+
+/* Opens the segment of an image in a copy of its bytes. */
+static zx_code open_image(zx_file *file, const struct image *image, uint32_t how) {
+    uint64_t capacity = image->len < 16 ? 16 : (image->len + 15) / 16 * 16;
+    zx_code code = zx_open_explained(&file->segment, image->bytes, image->len, capacity, how, &file->place);
+    return explained(file, code, image->len);
+}
+
+/* Opens the segment of the file's bytes. If a process was killed while it changed the length of the mapped file, bytes can
+   follow the image. */
+static zx_code read_segment(zx_file *file, int from, uint32_t how) {
+    struct image image;
+    zx_code code = read_all(file, from, &image);
+    if (code == ZX_DONE) code = open_image(file, &image, how);
+    uint64_t shown = file->place, said = code == ZX_BAD_IMAGE_SIZE ? size_said(image.bytes) : image.len;
+    if (image.len % 16 == 0 && said < image.len) {
+        const struct image front = { image.bytes, said };
+        if (open_image(file, &front, how) == ZX_DONE) code = ZX_DONE;
+        file->place = shown;
     }
-    free(image.bytes);
+    free_image(&image);
     return code;
 }
 
@@ -59,9 +79,30 @@ static bool has_hole(int file, const struct stat *found) {
     return lseek(file, 0, SEEK_HOLE) < (off_t)len;
 }
 
+/* Puts zeros in memory over the holes of a file that is mapped privately in a tmpfs. There to read a hole takes a page of
+   the disk, and if that is full the system ends the process. */
+static bool cover_holes(int file, uint8_t *at, uint64_t len, int protection) {
+    struct stat found;
+    const int how = MAP_PRIVATE | MAP_ANONYMOUS | MAP_NORESERVE | MAP_FIXED;
+    const off_t end = (off_t)((len + page_size() - 1) / page_size() * page_size());
+    if (fstat(file, &found) != 0) return false;
+    uint64_t all = (uint64_t)found.st_size > len ? (uint64_t)found.st_size : len;
+    if ((uint64_t)found.st_blocks * 512 >= all || !is_in_memory(file, &found)) return true;
+    for (off_t data = 0; data < (off_t)len;) {
+        off_t hole = lseek(file, data, SEEK_HOLE);
+        if (hole < 0 || hole >= (off_t)len) return hole >= 0;
+        data = lseek(file, hole, SEEK_DATA);
+        if (data < 0 && errno != ENXIO) return false;
+        if (data < 0 || data > end) data = end;
+        if (mmap(at + hole, (size_t)(data - hole), protection, how, -1, 0) == MAP_FAILED) return false;
+    }
+    return true;
+}
+
 /* Allocates blocks up to a length, so that no write to a page finds the disk full. */
 static bool allot(int file, const struct stat *found, uint64_t len) {
     if ((uint64_t)found->st_size >= len && !has_hole(file, found)) return true;
+    if (!may_have_length(file, len)) return false;
     int tries = 0;
     while (fallocate(file, 0, 0, (off_t)len) != 0)
         if (!is_interrupted(&tries)) return errno == EOPNOTSUPP && set_length(file, len);
@@ -73,16 +114,6 @@ static bool cut(int file, uint64_t size) {
     struct stat found;
     return fstat(file, &found) == 0 && ((uint64_t)found.st_size == size || set_length(file, size));
 }
-
-/* Returns the number in 8 bytes (docs/FORMAT.md). */
-static uint64_t number_at(const uint8_t *bytes) {
-    uint64_t number = 0;
-    for (int i = 7; i >= 0; i--) number = number << 8 | bytes[i];
-    return number;
-}
-
-/* Returns the size in an image's header. */
-static uint64_t size_said(const uint8_t *image) { return number_at(image + 16); }
 
 /* The addresses at which this process maps files of one length again and again: a gap between two pages that stay
    mapped. A short file lies near the start of the range that one page table of the system covers. The two pages keep
@@ -143,6 +174,15 @@ static void *place_for(uint64_t len) {
     return place.at;
 }
 
+static void unmap_listed(struct zx_held_file *held) {
+    pthread_mutex_lock(&guard);
+    unmap_all(held);
+    held->at = NULL;
+    held->room = 0;
+    held->mapped = NULL;
+    pthread_mutex_unlock(&guard);
+}
+
 /* Maps a file that is in the list of held files. A child that is forked at any time unmaps its copy. */
 static bool map_listed(struct zx_held_file *held, uint64_t len, int protection, int flags) {
     pthread_mutex_lock(&guard);
@@ -154,16 +194,9 @@ static bool map_listed(struct zx_held_file *held, uint64_t len, int protection, 
     }
     pthread_mutex_unlock(&guard);
     if (is_in_place && flags == MAP_SHARED) read_apart(at, len);
-    return is_mapped;
-}
-
-static void unmap_listed(struct zx_held_file *held) {
-    pthread_mutex_lock(&guard);
-    unmap_all(held);
-    held->at = NULL;
-    held->room = 0;
-    held->mapped = NULL;
-    pthread_mutex_unlock(&guard);
+    if (!is_mapped || flags == MAP_SHARED || cover_holes(held->file, at, len, protection)) return is_mapped;
+    unmap_listed(held);
+    return false;
 }
 
 static zx_code map_anew(zx_file *file, struct zx_held_file *held, uint32_t how);
@@ -299,8 +332,6 @@ zx_code zx_file_flush(zx_file *file) {
     file->error = 0;
     if (held->state == READ) return ZX_READ_ONLY;
     if (!is_own(held)) return faulty(file, ZX_FILE_FORKED, EPERM);
-    if (msync(held->at, held->len, MS_SYNC) != 0) return fault(file);
-    zx_code code = still_named(file, held);
-    if (code != ZX_DONE) return code;
-    return held->state == UNSYNCED ? sync_name(file, held) : (zx_code)ZX_DONE;
+    if (held->steps > 0) return faulty(file, ZX_FILE_IN_STEP, EBUSY);
+    return msync(held->at, held->len, MS_SYNC) == 0 ? sync_found(file, held) : fault(file);
 }

@@ -141,7 +141,7 @@ struct commits {
     bool is_marked;  /* whether the two are known */
     bool is_unsure;  /* a commit failed, and may be in the log or not */
     bool is_left;    /* another process left the log: nothing is added to it, since a sync of it may have failed */
-    bool is_synced;  /* what the opening found is on the disk: the file, and which names there are */
+    uint64_t left;   /* the fingerprint of the records that it left */
     uint64_t end;    /* where the records of the log end */
     uint64_t room;   /* the length up to which this process allocated the log's blocks */
     uint64_t compared; /* pages that commits found the same since the last checkpoint */

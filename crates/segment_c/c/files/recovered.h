@@ -1,40 +1,31 @@
 /* A part of files.c: files that are opened with a log beside them. */
 
-/* Maps a file to read all of it. Null if that fails. */
-static uint8_t *map_to_read(int file, uint64_t len, int flags) {
-    uint8_t *at = mmap(NULL, len, PROT_READ, MAP_SHARED | flags, file, 0);
-    return at == MAP_FAILED ? NULL : at;
+/* Maps a file privately to read all of it. Null if that fails. */
+static uint8_t *map_to_read(int file, uint64_t len) {
+    uint8_t *at = mmap(NULL, len, PROT_READ, MAP_PRIVATE, file, 0);
+    if (at == MAP_FAILED) return NULL;
+    if (cover_holes(file, at, len, PROT_READ)) return at;
+    munmap(at, len);
+    return NULL;
 }
 
-/* Maps the log of a held file to read it. Leaves `log` without bytes if there is no log, or its first gate is shut, so
-   that it has no record. */
-static zx_code map_log(zx_file *file, const struct zx_held_file *held, struct image *log) {
-    struct stat found;
-    uint8_t gate = 0;
+/* Reads the records of the log of a held file. Leaves `log` without bytes if there are none. */
+static zx_code read_held_log(zx_file *file, const struct zx_held_file *held, struct image *log) {
     *log = (struct image){ NULL, 0 };
-    if (held->log < 0) return ZX_DONE;
-    if (fstat(held->log, &found) != 0 || read_at(held->log, &gate, 1, 0) < 0) return fault(file);
-    if (gate != 1) return ZX_DONE;
-    log->len = (uint64_t)found.st_size;
-    log->bytes = map_to_read(held->log, log->len, MAP_POPULATE);
-    return log->bytes ? (zx_code)ZX_DONE : fault(file);
-}
-
-static void unmap_image(const struct image *image) {
-    if (image->bytes) munmap(image->bytes, image->len);
+    return held->log >= 0 && held->has_records ? read_records(file, held->log, log) : (zx_code)ZX_DONE;
 }
 
 /* Applies a log to the private mapping of a file of `len` bytes. The file does not change. */
 static zx_code replay_mapped(zx_file *file, struct zx_held_file *held, uint64_t len, const struct image *log,
                              struct recovered *made) {
-    const struct image base = { map_to_read(held->file, len, 0), len }, image = { held->at, held->len };
+    const struct image base = { map_to_read(held->file, len), len }, image = { held->at, held->len };
     if (!base.bytes) return fault(file);
     // behind the end of the file its last page has what others wrote there, if they mapped it
     if (held->len > len) memset(held->at + len, 0, pages_of(len) * PAGE - len);
     // else each 16 pages are a fault of their own
     (void)madvise(held->at, len, MADV_POPULATE_READ);
     zx_code code = replay(file, &base, log, &image, made);
-    unmap_image(&base);
+    munmap(base.bytes, base.len);
     if (code == ZX_DONE) held->len = made->len;
     return code;
 }
@@ -80,9 +71,9 @@ static zx_code map_recovered(zx_file *file, struct zx_held_file *held, uint64_t 
 static zx_code read_recovered(zx_file *file, struct zx_held_file *held, uint64_t len, uint32_t how) {
     struct image log;
     struct recovered made;
-    zx_code code = map_log(file, held, &log);
+    zx_code code = read_held_log(file, held, &log);
     if (code == ZX_DONE) code = map_recovered(file, held, len, 0, &log, &made);
-    unmap_image(&log);
+    free_image(&log);
     if (code != ZX_DONE) return code;
     if (how == ZX_READ) mprotect(held->at, held->len, PROT_READ);
     code = attach(file, held, held->len, how);
@@ -100,9 +91,10 @@ static zx_code begin_commits(zx_file *file, struct zx_held_file *held, uint64_t 
     held->commits = commits;
     held->commits->written = (uint8_t *)commits + notes_at();
     zx_code code = open_log(file, held);
-    if (code == ZX_DONE) code = map_log(file, held, &log);
+    if (code == ZX_DONE) code = read_held_log(file, held, &log);
     if (code == ZX_DONE) code = map_recovered(file, held, len, pages_of(LARGEST) * PAGE, &log, &made);
-    unmap_image(&log);
+    if (code == ZX_DONE && made.end > 0) held->commits->left = zx_log_fingerprint(log.bytes, made.end);
+    free_image(&log);
     if (code != ZX_DONE) return code;
     held->commits->base = made.base;
     held->commits->after = made.after;
@@ -112,8 +104,12 @@ static zx_code begin_commits(zx_file *file, struct zx_held_file *held, uint64_t 
     return ZX_DONE;
 }
 
+static zx_code part_from_names(zx_file *file, struct zx_held_file *held, struct stat *found);
+
 /* Opens a segment of a durable file, for commits. */
-static zx_code open_durable(zx_file *file, struct zx_held_file *held, const struct stat *found) {
+static zx_code open_durable(zx_file *file, struct zx_held_file *held, struct stat *found) {
+    zx_code parted = part_from_names(file, held, found);
+    if (parted != ZX_DONE) return parted;
     uint64_t len = (uint64_t)found->st_size;
     // no segment has such a size, so the bytes are refused
     if (len == 0 || len % 16 != 0) return read_segment(file, held->file, ZX_WRITE);
@@ -148,20 +144,30 @@ static zx_code open_folder(zx_file *file, struct zx_held_file *held) {
     return code;
 }
 
+/* Reads the held file into memory of its own, and applies the records of its log. */
+static zx_code read_image(zx_file *file, struct zx_held_file *held, const struct image *log, struct image *image,
+                          struct recovered *made) {
+    struct image base;
+    *image = (struct image){ NULL, 0 };
+    zx_code code = read_all(file, held->file, &base);
+    if (code == ZX_DONE) code = replay_copy(file, &base, log, image, made);
+    free_image(&base);
+    return code;
+}
+
 /* Applies the records of the log to the file: replaces the file, and empties the log. */
-static zx_code replace_recovered(zx_file *file, struct zx_held_file *held, uint64_t len) {
-    struct image log = { NULL, 0 };
+static zx_code replace_recovered(zx_file *file, struct zx_held_file *held) {
+    struct image log, image = { NULL, 0 };
     struct recovered made = { .end = 0 };
-    zx_code code = len > 0 ? map_log(file, held, &log) : (zx_code)ZX_DONE;
-    if (code == ZX_DONE && log.bytes) code = map_recovered(file, held, len, 0, &log, &made);
+    zx_code code = read_held_log(file, held, &log);
+    if (code == ZX_DONE && log.bytes) code = read_image(file, held, &log, &image, &made);
     if (code == ZX_DONE && made.end > 0) {
-        const struct image image = { held->at, made.len };
-        code = renew_log(file, held, made.end);
+        image.len = made.len;
+        code = renew_log(file, held, &log, made.end);
         if (code == ZX_DONE) code = replace(file, held, &image);
-        if (code == ZX_DONE) code = empty_log(file, held);
     }
-    if (held->at) unmap_listed(held);
-    unmap_image(&log);
+    free_image(&image);
+    free_image(&log);
     return code;
 }
 
@@ -170,76 +176,95 @@ static zx_code settle_log(zx_file *file, struct zx_held_file *held, struct stat 
     zx_code code = open_log(file, held);
     if (code != ZX_DONE || held->log < 0) return code;
     code = open_folder(file, held);
-    if (code == ZX_DONE) code = replace_recovered(file, held, (uint64_t)found->st_size);
+    if (code == ZX_DONE && held->has_records) code = replace_recovered(file, held);
     if (code == ZX_DONE) code = end_name(file, held);
     close_listed(&held->log);
     if (code == ZX_FILE_UNSYNCED) code = ZX_FILE_FAULT;
     return code == ZX_DONE && fstat(held->file, found) != 0 ? fault(file) : code;
 }
 
-/* Removes a log that no longer counts: the file was just created, or all of its bytes are about to be replaced. */
-static zx_code drop_log(zx_file *file, struct zx_held_file *held) {
-    char log[PATH_MAX + 8];
-    enum state state = held->state;
-    bool is_gone = name_log(held->name, log) && unlinkat(held->folder, log, 0) == 0;
-    zx_code code = is_gone ? synced(sync_name(file, held)) : (zx_code)ZX_DONE;
-    held->state = state;
+/* Replaces a file that has several names by one of its own, before a log lies beside this name: by another name it would
+   be opened without the log, and changed. */
+static zx_code part_from_names(zx_file *file, struct zx_held_file *held, struct stat *found) {
+    struct image image;
+    if (found->st_nlink < 2) return ZX_DONE;
+    zx_code code = settle_log(file, held, found);
+    if (code != ZX_DONE || found->st_nlink < 2) return code;
+    code = read_all(file, held->file, &image);
+    if (code == ZX_DONE) code = open_image(file, &image, ZX_READ);
+    zx_close(&file->segment);
+    if (code == ZX_DONE) code = synced(replace(file, held, &image));
+    free_image(&image);
+    return code == ZX_DONE && fstat(held->file, found) != 0 ? fault(file) : code;
+}
+
+/* ---- the log of a file that is gone, beside a new one */
+
+/* Looks for a log beside the name of a new file: whose commits they are is not known, so the file is not created. If the
+   file is held, a log without a record is removed. */
+static zx_code look_beside(zx_file *file, struct zx_held_file *held) {
+    zx_code code = open_log(file, held);
+    if (code == ZX_DONE && held->log >= 0) {
+        enum state state = held->state;
+        if (held->file >= 0 && !held->has_records) code = end_name(file, held);
+        held->state = state;
+    }
+    if (held->log >= 0 && held->has_records) code = faulty(file, ZX_FILE_LOG_LEFT, EEXIST);
+    int32_t error = file->error;
+    close_listed(&held->log);
+    file->error = error;
     return code;
 }
 
-/* Creates the file of a name, and removes a log that was left beside the name. In this order: before the file is held,
-   the log may be that of a process that creates the file at the same time. */
+/* Creates the file of a name. Refuses to if a log with records lies beside the name, before it or behind it: then the
+   caller removes the new file. If the file exists by now, the log may be its own. */
 static zx_code make_without_log(zx_file *file, struct zx_held_file *held, const struct image *image) {
-    zx_code code = make_held(file, held, image);
-    return code == ZX_DONE ? drop_log(file, held) : code;
+    struct stat found;
+    zx_code code = look_beside(file, held);
+    if (code == ZX_FILE_LOG_LEFT && fstatat(held->folder, held->name, &found, AT_SYMLINK_NOFOLLOW) == 0) return AGAIN;
+    if (code == ZX_DONE) code = make_held(file, held, image);
+    return code == ZX_DONE ? look_beside(file, held) : code;
 }
 
 /* ---- a file that is read while another process may write it */
 
-/* Applies `log` to a copy of the bytes that were read of a file, and opens the segment. */
-static zx_code open_replayed(zx_file *file, const struct image *base, const struct image *log, uint32_t how) {
-    struct recovered made = { .end = 0 };
-    struct image image;
-    zx_code code = find_room(file, base->len, log, &image.len);
-    if (code != ZX_DONE) return code;
-    image.bytes = calloc(image.len ? image.len : 1, 1);
-    if (!image.bytes) return ZX_NO_MEMORY;
-    memcpy(image.bytes, base->bytes, base->len);
-    code = replay(file, base, log, &image, &made);
-    if (code == ZX_DONE) {
-        uint64_t capacity = (made.len + 15) / 16 * 16;
-        code = zx_open_explained(&file->segment, image.bytes, made.len, capacity, how, &file->place);
-        code = explained(file, code, made.len);
-    }
-    free(image.bytes);
-    return code;
-}
-
 /* Reads a file, applies `log` to it and opens the segment. The caller read the log before the file. Returns
    ZX_FILE_LOG_FOREIGN if another process changed the file between the two reads. */
 static zx_code read_with_log(zx_file *file, int from, const struct image *log, uint32_t how) {
-    struct stat found;
-    if (fstat(from, &found) != 0) return fault(file);
-    zx_code code = judge(file, &found);
-    if (code != ZX_DONE) return code;
-    struct image base = room_for((uint64_t)found.st_size);
-    if (!base.bytes) return ZX_NO_MEMORY;
-    ssize_t len = read_at(from, base.bytes, base.len, 0);
-    if (len >= 0) base.len = (uint64_t)len;
-    code = len < 0 ? fault(file) : open_replayed(file, &base, log, how);
-    free(base.bytes);
+    struct recovered made = { .end = 0 };
+    struct image base, image = { NULL, 0 };
+    zx_code code = read_all(file, from, &base);
+    if (code == ZX_DONE) code = replay_copy(file, &base, log, &image, &made);
+    if (code == ZX_DONE) {
+        image.len = made.len;
+        code = open_image(file, &image, how);
+    }
+    free_image(&image);
+    free_image(&base);
     return code;
+}
+
+/* Returns true if a log may have the name that could not be opened. Links and sockets are not opened, and are no logs. */
+static bool may_be_log(const char *name, const struct stat *own) {
+    int error = errno;
+    struct stat found;
+    bool is_none = is_no_log(error) || (lstat(name, &found) == 0 && !(S_ISREG(found.st_mode) && does_count(own, &found, AT_FDCWD, name)));
+    errno = error;
+    return !is_none;
 }
 
 /* Opens and reads the log of the file at `path`. Leaves `log` without bytes if the file has no log, or the log has no
    record. */
-static zx_code log_of(zx_file *file, const char *path, struct image *log) {
+static zx_code log_of(zx_file *file, const char *path, const struct stat *own, struct image *log) {
     char name[PATH_MAX + 8];
+    struct stat found;
     *log = (struct image){ NULL, 0 };
     if (!name_log(path, name)) return ZX_DONE;
     int from = open(name, O_RDONLY | O_NONBLOCK | O_NOCTTY | O_CLOEXEC | O_NOFOLLOW);
-    if (from < 0) return is_no_log(errno) ? (zx_code)ZX_DONE : errno == EINTR ? (zx_code)AGAIN : fault(file);
-    zx_code code = read_log(file, from, log);
+    if (from < 0) return errno == EINTR ? (zx_code)AGAIN : may_be_log(name, own) ? fault(file) : (zx_code)ZX_DONE;
+    zx_code code = fstat(from, &found) == 0 ? ZX_DONE : fault(file);
+    bool is_log = code == ZX_DONE && S_ISREG(found.st_mode) && does_count(own, &found, AT_FDCWD, path);
+    if (is_log) code = read_log(file, from, &found, log);
     close(from);
     return code;
 }

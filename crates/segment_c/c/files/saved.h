@@ -112,8 +112,7 @@ static bool has_image(int file, const struct image *image) {
 
 /* Fills the new file, which is locked. If the old one is not null, it gets that one's rights. */
 static bool fill(struct zx_held_file *held, const struct image *image, const struct stat *old) {
-    return (!old || take_all_but_bytes(held->made, held->file, old)) && write_image(held->made, image) &&
-           sync_one(held->made);
+    return (!old || take_all_but_bytes(held->made, held->file, old)) && write_image(held->made, image);
 }
 
 /* Locks a new file, as take_lock does. Who opens an empty file before it is locked finds no segment in it, or puts
@@ -125,6 +124,13 @@ static int lock_new(int made) {
         error = take_lock(made, LOCK_EX);
     }
     return error;
+}
+
+/* Returns true if the name of the held file certainly leads to another file. */
+static bool is_taken(const struct zx_held_file *held) {
+    struct stat own, named;
+    return fstat(held->file, &own) == 0 && fstatat(held->folder, held->name, &named, AT_SYMLINK_NOFOLLOW) == 0 &&
+           !is_same(&named, &own);
 }
 
 /* Returns true if a name certainly leads to the file no more. */
@@ -149,14 +155,25 @@ static bool unmade(struct zx_held_file *held, int error) {
     return false;
 }
 
-/* Creates a file that does not exist, as the new one of `held`, in its folder. The file gets its name when it is whole;
-   on a file system without unnamed files, before its first byte, and is removed if it does not become whole. */
+/* Syncs the new file behind its name: a file system without a journal writes the number of names with the file, and
+   after a power cut removes a file that has none. Removes the name if the sync fails. */
+static bool sync_made(struct zx_held_file *held, const char *name) {
+    if (sync_one(held->made)) return true;
+    int error = errno;
+    remove_own(held->folder, name, held->made);
+    return unmade(held, error);
+}
+
+/* Creates a file that does not exist, as the new one of `held`, in its folder. The file gets its name when it is whole
+   and, unless it replaces the old one, synced; on a file system without unnamed files, before its first byte, and is
+   removed if it does not become whole. */
 static bool make(struct zx_held_file *held, const char *name, const struct image *image, const struct stat *old) {
     mode_t mode = old ? 0600 : 0666;
     if (open_listed(&held->made, held->folder, ".", O_TMPFILE | O_RDWR, mode)) {
         int refused = lock_new(held->made);
-        if (refused || !fill(held, image, old)) return unmade(held, refused ? refused : errno);
-        if (give_name(held->made, held->folder, name)) return true;
+        bool is_filled = !refused && fill(held, image, old) && (old || sync_one(held->made));
+        if (!is_filled) return unmade(held, refused ? refused : errno);
+        if (give_name(held->made, held->folder, name)) return sync_made(held, name);
         if (errno == EEXIST) return unmade(held, EEXIST);
         close_listed(&held->made);
     }
@@ -165,9 +182,9 @@ static bool make(struct zx_held_file *held, const char *name, const struct image
     int error = lock_new(held->made);
     if (error == EWOULDBLOCK) return unmade(held, error);
     if (lost_its_name(held->made, held->folder, name)) return unmade(held, EEXIST);
-    if (!error && fill(held, image, old)) return true;
+    if (!error && fill(held, image, old)) return sync_made(held, name);
     if (!error) error = errno;
-    unlinkat(held->folder, name, 0);
+    remove_own(held->folder, name, held->made);
     return unmade(held, error);
 }
 
@@ -218,23 +235,22 @@ static zx_code replace(zx_file *file, struct zx_held_file *held, const struct im
     else if (renameat(held->folder, spare, held->folder, held->name) != 0)
         code = fault(file);
     if (code != ZX_DONE) {
-        bool is_left = is_made && unlinkat(held->folder, spare, 0) != 0;
+        bool is_left = is_made && !remove_own(held->folder, spare, held->made);
         close_listed(&held->made);
         if (!is_left && old.st_nlink == 1) fremovexattr(held->file, MARK);
         return code;
     }
     take_made(held);
+    held->state = UNSYNCED;
     return sync_name(file, held);
 }
 
 /* Returns true if the file certainly has the segment's image: no call has changed it since, and no view can have. */
 static bool is_saved(const zx_segment *segment, const struct zx_held_file *held) {
-    return held->state == SAVED && segment->changes == held->saved && !segment->shared;
+    bool was_saved = held->state == SAVED || held->state == FOUND;
+    return was_saved && segment->changes == held->saved && !segment->shared;
 }
 
 static zx_code save_held(zx_file *file, struct zx_held_file *held, const struct image *image) {
-    if (!has_image(held->file, image)) return replace(file, held, image);
-    zx_code code = still_named(file, held);
-    if (code != ZX_DONE) return code;
-    return held->state == SAVED ? (zx_code)ZX_DONE : sync_name(file, held);
+    return has_image(held->file, image) ? sync_found(file, held) : replace(file, held, image);
 }

@@ -12,9 +12,15 @@ zx_code zx_file_begin(zx_file *file, zx_step *before) {
         zx_close(&before->copy);
         return begin_pages(file, held, before);
     }
-    if (!begin_ground(file, before)) return zx_begin(&file->segment, &before->copy);
-    zx_close(&before->copy);
-    return ZX_DONE;
+    if (begin_ground(file, before)) zx_close(&before->copy);
+    else code = zx_begin(&file->segment, &before->copy);
+    if (code == ZX_DONE && held) held->steps++;
+    return code;
+}
+
+/* Ends a step of a segment that has a file, and is not mapped. */
+static void end_step(struct zx_held_file *held) {
+    if (held && !held->mapped && held->steps > 0) held->steps--;
 }
 
 zx_code zx_file_keep(zx_file *file, zx_step *before) {
@@ -23,6 +29,7 @@ zx_code zx_file_keep(zx_file *file, zx_step *before) {
     if (!before->kept || before->kept->ground) {
         zx_commit(&before->copy);
         free_kept(before);
+        end_step(held);
         return ZX_DONE;
     }
     bool is_open = held && held->mapped && held->steps > 0 && is_own(held);
@@ -45,6 +52,7 @@ void zx_file_leave(zx_file *file, zx_step *before) {
     zx_commit(&before->copy);
     bool has_pages = before->kept && !before->kept->ground;
     free_kept(before);
+    if (!has_pages) end_step(held);
     if (!has_pages || !held || !held->mapped || held->steps == 0 || !is_own(held)) return;
     if (held->steps == 1 && is_shared_writer(held)) (void)share_own(file, held);
     held->steps--;
@@ -53,10 +61,10 @@ void zx_file_leave(zx_file *file, zx_step *before) {
 zx_code zx_file_undo(zx_file *file, zx_step *before) {
     struct zx_held_file *held = file->held;
     file->error = 0;
-    if (!before->kept) return zx_file_rollback(file, &before->copy);
-    if (before->kept->ground) {
-        zx_code code = undo_ground(file, before->kept);
+    if (!before->kept || before->kept->ground) {
+        zx_code code = before->kept ? undo_ground(file, before->kept) : zx_file_rollback(file, &before->copy);
         if (code == ZX_DONE) free_kept(before);
+        if (code == ZX_DONE) end_step(held);
         return answered(file, code);
     }
     if (!held || !held->mapped || held->steps == 0 || !file->segment.at) return ZX_CLOSED;

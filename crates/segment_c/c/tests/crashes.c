@@ -325,12 +325,15 @@ static void say(const char *what) {
            (unsigned long long)calls, may_count, (unsigned long long)state_file.len, (unsigned long long)state_log.len);
 }
 
+/* Whether the log is taken for one. If its first gate is garbage it is not, and has no record that was answered. */
+static bool is_log(void) { return has_log && zx_log_kind(state_log.at, state_log.len, state_log.len) == RECORDS; }
+
 static void judge_state(void) {
     struct recovered made = { .end = 0 };
     zx_file none = ZX_CLOSED_FILE;
     states++;
     if (!cut_power()) return say("no file is there");
-    const struct image log = { has_log ? state_log.at : NULL, has_log ? state_log.len : 0 };
+    const struct image log = { is_log() ? state_log.at : NULL, is_log() ? state_log.len : 0 };
     const struct image base = { state_file.at, state_file.len };
     struct image image;
     made.len = base.len;
@@ -491,6 +494,8 @@ static bool reboot(void) {
     (unlinkat)(AT_FDCWD, log_path, 0);
     if (!is_there) return false;
     save_bytes(path, &state_file);
+    // one that is garbage is in the way, and removed by whom a commit tells that
+    has_log &= zx_log_kind(state_log.at, state_log.len, state_log.len) != FOREIGN;
     if (has_log) save_bytes(log_path, &state_log);
     begin_disk();
     is_noted = true;

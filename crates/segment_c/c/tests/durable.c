@@ -210,13 +210,21 @@ static void create_another(void) {
     DONE(zx_file_commit(&another));
 }
 
-/* Two create a file at once, in two ways, and perhaps a log was left beside the name. One is refused, and takes no commit
-   of the other away. */
+/* Leaves a log without a record beside the name of a file that is gone. */
+static void leave_an_empty_log(zx_file *file) {
+    DONE(zx_file_save(file));
+    IS(link(log_path, other), 0);
+    zx_file_discard(file);
+    IS(rename(other, log_path), 0);
+    unlink(path);
+}
+
+/* Two create a file at once, in two ways, and perhaps a log without a record was left beside the name. One is refused, and
+   takes no commit of the other away. */
 static void two_creators(const char *folder, bool has_log, bool saves) {
     zx_file file = ZX_CLOSED_FILE;
     make(&file, folder, 8192);
-    zx_file_discard(&file);
-    unlink(path);
+    leave_an_empty_log(&file);
     if (!has_log) unlink(log_path);
     if (saves) DONE(zx_create(&file.segment, 4096));
     in_between = create_another;

@@ -1567,6 +1567,10 @@ static void bytes_of_logs(void) {
     IS(payload[40] == 20 && payload[48] == 4 && payload[56] == 9, true);
     DONE(zx_log_body(payload, 60, log + 4096, sizeof log - 4096));
     IS(log[4096], 60);
+    IS(zx_log_kind(log, 4144, 12288), 2);
+    IS(zx_log_kind((const uint8_t *)"my notes", 8, 8), 0);
+    IS(zx_log_counts(1, 2, 0644, 1, 2, 0644, 1, 2, 01777, 3), 1);
+    IS(zx_log_counts(1, 2, 0644, 4, 2, 0644, 1, 2, 01777, 3), 0);
     uint8_t found[64] = { 0 };
     uint64_t len = 0, end = 0, mark = 0, after = 0;
     memcpy(found, base, 32);
@@ -1580,6 +1584,7 @@ static void bytes_of_logs(void) {
     IS(zx_log_recover(base, 32, log, sizeof log, found, 64, &len, &end, &mark, &after), ZX_FILE_LOG_FOREIGN);
     IS(memcmp(found, base, 32), 0);
     log[0] = 0;
+    IS(zx_log_kind(log, 4144, 12288), 1);
     DONE(zx_log_recover(base, 32, log, sizeof log, found, 64, &len, &end, &mark, &after));
     IS(end == 0 && memcmp(found, base, 32) == 0, true);
 }

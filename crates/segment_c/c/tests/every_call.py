@@ -617,7 +617,7 @@ def what_shows_a_class():
             (zaluxhoni.BadMagicError, changed(0, word(0) ^ 1 << 24), 3),
             (zaluxhoni.UnsupportedVersionError, changed(8, 9), 8),
             (zaluxhoni.BadImageSizeError, changed(16, 1025), 16),
-            (zaluxhoni.BadImageSizeError, image + bytes(16), 1024),
+            (zaluxhoni.BadImageSizeError, image + bytes(8), 1024),
             (zaluxhoni.BadReservedError, changed(88, 1), 88),
             (zaluxhoni.BadTagError, changed(128, 16), 128),
             (zaluxhoni.BadFreeTreeError, changed(24, 1), 24),

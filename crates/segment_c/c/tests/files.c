@@ -717,12 +717,13 @@ static void what_is_passed(void) {
     IS(count_in(room), 1);
 
     zx_text words;
-    for (zx_code code = ZX_FILE_NONE; code <= ZX_FILE_IN_STEP; code++) {
+    for (zx_code code = ZX_FILE_NONE; code <= ZX_FILE_LOG_LEFT; code++) {
         words.len = 0;
         zx_file_words(code, &words);
         IS(words.len > 0, true);
+        IS(strlen(zx_message(code)), words.len);
     }
-    zx_file_words(ZX_FILE_IN_STEP + 1, &words);
+    zx_file_words(ZX_FILE_LOG_LEFT + 1, &words);
     IS(words.len, 0);
     zx_file_words(ZX_NO_SPACE, &words);
     IS(words.len, 8);

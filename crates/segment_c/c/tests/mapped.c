@@ -326,7 +326,7 @@ static void no_image(void) {
     seed(5);
     /* one that is longer than its image is read, and cut by a writer; bytes that say so are not enough */
     IS(truncate(path, 8192 + 4096), 0);
-    IS(stands(), -1000 - ZX_BAD_IMAGE_SIZE);
+    IS(stands(), 5);
     for (uint32_t mode = READ; mode <= COPY; mode++) {
         DONE(zx_file_open(&file, path, mode, 0));
         IS(get(&file), 5);

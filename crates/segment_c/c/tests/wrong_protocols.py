@@ -34,14 +34,15 @@ WRONG = [
     ("what a failed commit had to write is forgotten", "durable.h",
      "    commits->is_untold |= !find_written(held, pages, commits->written);",
      "    memset(commits->written, 0, pages);\n    commits->is_untold = !find_written(held, pages, commits->written);"),
-    ("what an opening found is taken for synced", "durable.h",
-     "    if (held->commits->is_synced) return ZX_DONE;", "    if (held->commits) return ZX_DONE;"),
+    ("what an opening found is taken for synced", "held.h",
+     "    if (code != ZX_DONE || held->state == SAVED) return code;", "    if (code != ZX_DONE || held->commits) return code;"),
     ("the pages that a log changed are not kept", "recovered.h",
      "made->end > 0 && !keep_own(held)) code = ZX_NO_MEMORY;", "len == 0) code = ZX_NO_MEMORY;"),
     ("the folder of a new log is not synced", "durable.h",
-     "        zx_code code = sync_name(file, held);\n        if (code == ZX_DONE) return code;\n    }\n    zx_code code = fault(file);\n"
-     "    held->state = state;",
-     "        return ZX_DONE;\n    }\n    zx_code code = fault(file);\n    held->state = state;"),
+     "        take_log_made(held);\n        return synced(sync_name(file, held));", "        take_log_made(held);\n        return ZX_DONE;"),
+    ("a new log has its name before its gate is synced", "durable.h",
+     "           write_at(held->made, gate, sizeof gate, (off_t)end) && sync_one(held->made);",
+     "           write_at(held->made, gate, sizeof gate, (off_t)end);"),
 ]
 
 

@@ -65,9 +65,31 @@ inline std::string words(zx_code code) {
     return std::string(reinterpret_cast<const char *>(text.at), text.len);
 }
 
-/// The base of all errors: `refused`, `file_error` and `outdated`. Each of them derives from an exception of std, too,
-/// and `error` converts to `const std::exception &`. `code()` is one of ZX_.. in zaluxhoni.h and zaluxhoni_files.h, or
-/// 0 for `outdated`, and `what()` says it in words.
+namespace detail {
+
+class code_category final : public std::error_category {
+  public:
+    const char *name() const noexcept override { return "zaluxhoni"; }
+    std::string message(int code) const override { return words(static_cast<zx_code>(code)); }
+    std::error_condition default_error_condition(int code) const noexcept override {
+        if (code == ZX_NO_MEMORY) return std::errc::not_enough_memory;
+        return {code, *this};
+    }
+};
+
+} // namespace detail
+
+/// Returns the category of the codes in zaluxhoni.h and zaluxhoni_files.h, for `std::error_code`.
+inline const std::error_category &category() noexcept {
+    static const detail::code_category one;
+    return one;
+}
+
+/// The base of all errors: `refused`, `file_error` and `outdated`. `code()` is one of ZX_.. in zaluxhoni.h and
+/// zaluxhoni_files.h, or 0 for `outdated`, and `what()` says it in words. Each error that is thrown also derives from an
+/// exception of std: `out_of_range` and `absent` from std::out_of_range, `no_memory` from std::bad_alloc, `outdated` from
+/// std::logic_error, and each other one from std::system_error. These have no base in common but std::exception, and a
+/// class with two such bases could not be caught as one: so `error` itself has none, but converts to it.
 class error {
   public:
     zx_code code() const noexcept { return code_; }
@@ -87,19 +109,54 @@ class error {
 };
 
 /// The library refused a call.
-class refused : public std::runtime_error, public error {
+class refused : public error {
+  protected:
+    explicit refused(zx_code code) noexcept : error(code) {}
+    refused(const refused &) = default;
+    refused &operator=(const refused &) = default;
+    ~refused() = default;
+};
+
+namespace detail {
+
+// -- the exceptions of std that stand for a code
+
+class as_system_error : public std::system_error {
   public:
-    explicit refused(zx_code code) : std::runtime_error(words(code)), error(code) {}
-    const char *what() const noexcept override { return std::runtime_error::what(); }
+    explicit as_system_error(zx_code code) : std::system_error(static_cast<int>(code), category()) {}
+};
+class as_out_of_range : public std::out_of_range {
+  public:
+    explicit as_out_of_range(zx_code code) : std::out_of_range(words(code)) {}
+};
+class as_bad_alloc : public std::bad_alloc {
+  public:
+    explicit as_bad_alloc(zx_code) noexcept {}
+    const char *what() const noexcept override { return "out of memory"; }
+};
+
+template <zx_code CODE>
+using standard_of =
+    std::conditional_t<CODE == ZX_NO_MEMORY, as_bad_alloc,
+                       std::conditional_t<CODE == ZX_OUT_OF_RANGE || CODE == ZX_ABSENT, as_out_of_range, as_system_error>>;
+
+/// A refusal that is thrown: an exception of std, and `refused`.
+template <class Standard> class refusal : public Standard, public refused {
+  public:
+    explicit refusal(zx_code code) : Standard(code), refused(code) {}
+    using refused::code;
+    const char *what() const noexcept override { return Standard::what(); }
 
   private:
     const std::exception &standard() const noexcept override { return *this; }
 };
 
+} // namespace detail
+
 /// The error of one code, so that a program can catch it alone.
-template <zx_code CODE> class error_of : public refused {
+template <zx_code CODE> class error_of : public detail::refusal<detail::standard_of<CODE>> {
   public:
-    error_of() : refused(CODE) {}
+    error_of() : detail::refusal<detail::standard_of<CODE>>(CODE) {}
 };
 
 using read_only = error_of<ZX_READ_ONLY>;
@@ -128,9 +185,9 @@ using no_file = error_of<ZX_FILE_NONE>;
 
 /// The bytes are no image of a segment. `number()` is the class of docs/FORMAT.md, from 1 to 12, and `place()` the
 /// offset of a byte that shows it, as `zx_explain` says.
-class bad_image : public refused {
+class bad_image : public detail::refusal<detail::as_system_error> {
   public:
-    explicit bad_image(zx_code code, std::uint64_t place = 0) : refused(code), place_(place) {}
+    explicit bad_image(zx_code code, std::uint64_t place = 0) : refusal(code), place_(place) {}
     int number() const noexcept { return static_cast<int>(code()) - 100; }
     std::uint64_t place() const noexcept { return place_; }
 
@@ -165,7 +222,7 @@ class bad_image : public refused {
     case ZX_FILE_NONE: throw no_file();
     default:
         if (ZX_TRUNCATED <= code && code <= ZX_ORPHAN_BLOCK) throw bad_image(code, place);
-        throw refused(code);
+        throw detail::refusal<detail::as_system_error>(code);
     }
 }
 

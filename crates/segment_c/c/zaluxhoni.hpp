@@ -1224,7 +1224,8 @@ template <class T> class value_kept<T, true> {
 };
 
 /// One element. It reads when a value is needed, and writes when one is assigned. It stays valid as long as the
-/// segment.
+/// segment. `swap` and `std::iter_swap` swap two elements. `std::swap` would move an element where it has to move a value,
+/// so an element is not moved, and then that does not compile.
 template <class Access> class element : private value_kept<typename Access::value_type> {
   public:
     using value_type = typename Access::value_type;
@@ -1232,6 +1233,8 @@ template <class Access> class element : private value_kept<typename Access::valu
 
     element(const typename Access::target &of, typename Access::index_type at) : of_(of), at_(at) {}
     element(const element &) = default;
+    element(element &&) = delete;
+    ~element() = default;
 
     [[nodiscard]] value_type value() const { return Access::get(of_, at_); }
     operator value_type() const { return value(); }
@@ -1305,6 +1308,8 @@ template <> class element<lines> : public read_as_text {
 
     element(spot of, std::uint64_t at) : of_(of), at_(at) {}
     element(const element &) = default;
+    element(element &&) = delete;
+    ~element() = default;
 
     [[nodiscard]] std::string value() const { return lines::get(of_, at_); }
     [[nodiscard]] std::string str() const { return value(); }
@@ -2924,30 +2929,25 @@ template <> struct std::hash<zaluxhoni::const_string> {
 };
 template <> struct std::hash<zaluxhoni::string> : std::hash<zaluxhoni::const_string> {};
 
-// `std::swap` of two elements swaps what they lead to. Without these it would not take what [] gives, and of two named
-// elements it would copy one and lose the value
-namespace std {
-template <class Access>
-void swap(const zaluxhoni::detail::element<Access> &a, const zaluxhoni::detail::element<Access> &b) {
-    swap_elements(a, b);
-}
-template <class Access> void swap(zaluxhoni::detail::element<Access> &a, zaluxhoni::detail::element<Access> &b) {
-    swap_elements(a, b);
-}
-} // namespace std
-
 #ifdef __cpp_lib_format
-/// Formats a text as a text, and an element as its value.
-template <class T>
-    requires zaluxhoni::detail::is_text_read<T>
-struct std::formatter<T, char> : std::formatter<std::string_view, char> {
+namespace zaluxhoni::detail {
+/// Formats a text as a text.
+template <class T> struct text_formatter : std::formatter<std::string_view, char> {
     template <class Context> auto format(const T &of, Context &context) const {
         const std::string text = of.str();
         return std::formatter<std::string_view, char>::format(text, context);
     }
 };
+} // namespace zaluxhoni::detail
+
+template <>
+struct std::formatter<zaluxhoni::const_string, char> : zaluxhoni::detail::text_formatter<zaluxhoni::const_string> {};
+template <> struct std::formatter<zaluxhoni::string, char> : zaluxhoni::detail::text_formatter<zaluxhoni::string> {};
+template <>
+struct std::formatter<zaluxhoni::detail::element<zaluxhoni::detail::lines>, char>
+    : zaluxhoni::detail::text_formatter<zaluxhoni::detail::element<zaluxhoni::detail::lines>> {};
+/// Formats an element as its value.
 template <class Access>
-    requires(!zaluxhoni::detail::is_text_read<zaluxhoni::detail::element<Access>>)
 struct std::formatter<zaluxhoni::detail::element<Access>, char> : std::formatter<typename Access::value_type, char> {
     template <class Context> auto format(const zaluxhoni::detail::element<Access> &of, Context &context) const {
         return std::formatter<typename Access::value_type, char>::format(of.value(), context);

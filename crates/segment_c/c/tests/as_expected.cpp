@@ -1067,11 +1067,12 @@ void swapped() {
     texts.push_back(texts.back());
     IS(texts.size() == 4 && texts[0] == "a" && texts[3] == "a");
     texts[1] = "b";
-    std::swap(v[0], v[1]);
+    swap(v[0], v[1]);
     IS(v[0] == 2 && v[1] == 1);
     auto first = v[0], second = v[1];
-    std::swap(first, second);
+    swap(first, second);
     IS(v[0] == 1 && v[1] == 2);
+    static_assert(std::is_swappable_v<decltype(first)> && !std::is_move_constructible_v<decltype(first)>);
     {
         using std::swap;
         swap(first, second);
@@ -1080,8 +1081,8 @@ void swapped() {
         IS(v[0] == 1 && v[1] == 2);
     }
     std::iter_swap(v.begin(), v.begin() + 1);
-    std::swap(items[0], items[1]);
-    std::swap(texts[0], texts[1]);
+    swap(items[0], items[1]);
+    swap(texts[0], texts[1]);
     IS(v[0] == 2 && items[0]->article == 2 && (*items[1]).article == 1 && texts[0] == "b" && texts[1] == "a");
 }
 

@@ -1362,6 +1362,10 @@ template <class T> auto text_of(const T &of) {
 
 template <class Access, class R> class iterator {
   public:
+#if __cplusplus >= 202002L
+    using iterator_concept = std::random_access_iterator_tag;
+#endif
+    // as that of std::vector<bool>, which gives proxies too: std::reverse, std::prev and their like take no other
     using iterator_category = std::random_access_iterator_tag;
     using value_type = typename Access::value_type;
     using difference_type = std::ptrdiff_t;
@@ -2540,6 +2544,10 @@ template <class K, class V> class const_map : public object {
     /// reads pairs ahead, up to 32, until a call changes the segment.
     class iterator {
       public:
+#if __cplusplus >= 202002L
+        using iterator_concept = std::bidirectional_iterator_tag;
+#endif
+        // std::prev takes no other
         using iterator_category = std::bidirectional_iterator_tag;
         using value_type = std::pair<K, V>;
         using difference_type = std::ptrdiff_t;

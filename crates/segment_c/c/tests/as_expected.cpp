@@ -387,6 +387,8 @@ static_assert(std::sortable<zaluxhoni::array<double>::iterator>);
 static_assert(std::ranges::input_range<zaluxhoni::map<i32, i64>> &&
               std::ranges::input_range<zaluxhoni::const_map<u8, bool>>);
 static_assert(!std::ranges::output_range<zaluxhoni::const_vector<i64>, i64>);
+static_assert(std::is_same_v<zaluxhoni::vector<i64>::iterator::iterator_concept, std::random_access_iterator_tag>);
+static_assert(std::is_same_v<zaluxhoni::map<i32, i64>::iterator::iterator_concept, std::bidirectional_iterator_tag>);
 #endif
 
 void bulk() {

@@ -475,7 +475,7 @@ template <class T> using value_of = std::conditional_t<std::is_arithmetic_v<T>, 
 
 namespace detail {
 
-class viewed_bytes;
+struct viewed_bytes;
 template <class T, class R, class = void> inline constexpr bool is_row = false;
 /// The base of what reads elements of a segment. A call copies them: it may move what `data()` refers to.
 struct in_segment {};
@@ -524,7 +524,7 @@ template <class T> class slice {
     const T *end() const noexcept { return at_ + count_; }
 
   private:
-    friend class detail::viewed_bytes;
+    friend struct detail::viewed_bytes;
 
     template <class R> void copy(const R &range) {
         count_ = static_cast<std::size_t>(std::distance(std::begin(range), std::end(range)));
@@ -703,8 +703,7 @@ namespace detail {
 
 /// The bytes of a segment to which the program has pointers, since it asked for a view or an address. A call that takes
 /// such bytes gets a copy of them: it may move the object, or the whole segment, before it reads them.
-class viewed_bytes {
-  public:
+struct viewed_bytes {
     void add(const void *at, std::size_t len) noexcept {
         if (len == 0) return;
         begin_ = std::min(begin_, address(at));

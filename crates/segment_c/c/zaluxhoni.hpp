@@ -65,9 +65,31 @@ inline std::string words(zx_code code) {
     return std::string(reinterpret_cast<const char *>(text.at), text.len);
 }
 
-/// The base of all errors: `refused`, `file_error` and `outdated`. Each of them derives from an exception of std, too,
-/// and `error` converts to `const std::exception &`. `code()` is one of ZX_.. in zaluxhoni.h and zaluxhoni_files.h, or
-/// 0 for `outdated`, and `what()` says it in words.
+namespace detail {
+
+class code_category final : public std::error_category {
+  public:
+    const char *name() const noexcept override { return "zaluxhoni"; }
+    std::string message(int code) const override { return words(static_cast<zx_code>(code)); }
+    std::error_condition default_error_condition(int code) const noexcept override {
+        if (code == ZX_NO_MEMORY) return std::errc::not_enough_memory;
+        return {code, *this};
+    }
+};
+
+} // namespace detail
+
+/// Returns the category of the codes in zaluxhoni.h and zaluxhoni_files.h, for `std::error_code`.
+inline const std::error_category &category() noexcept {
+    static const detail::code_category one;
+    return one;
+}
+
+/// The base of all errors: `refused`, `file_error` and `outdated`. `code()` is one of ZX_.. in zaluxhoni.h and
+/// zaluxhoni_files.h, or 0 for `outdated`, and `what()` says it in words. Each error that is thrown also derives from an
+/// exception of std: `out_of_range` and `absent` from std::out_of_range, `no_memory` from std::bad_alloc, `outdated` from
+/// std::logic_error, and each other one from std::system_error. These have no base in common but std::exception, and a
+/// class with two such bases could not be caught as one: so `error` itself has none, but converts to it.
 class error {
   public:
     zx_code code() const noexcept { return code_; }
@@ -87,19 +109,54 @@ class error {
 };
 
 /// The library refused a call.
-class refused : public std::runtime_error, public error {
+class refused : public error {
+  protected:
+    explicit refused(zx_code code) noexcept : error(code) {}
+    refused(const refused &) = default;
+    refused &operator=(const refused &) = default;
+    ~refused() = default;
+};
+
+namespace detail {
+
+// -- the exceptions of std that stand for a code
+
+class as_system_error : public std::system_error {
   public:
-    explicit refused(zx_code code) : std::runtime_error(words(code)), error(code) {}
-    const char *what() const noexcept override { return std::runtime_error::what(); }
+    explicit as_system_error(zx_code code) : std::system_error(static_cast<int>(code), category()) {}
+};
+class as_out_of_range : public std::out_of_range {
+  public:
+    explicit as_out_of_range(zx_code code) : std::out_of_range(words(code)) {}
+};
+class as_bad_alloc : public std::bad_alloc {
+  public:
+    explicit as_bad_alloc(zx_code) noexcept {}
+    const char *what() const noexcept override { return "out of memory"; }
+};
+
+template <zx_code CODE>
+using standard_of =
+    std::conditional_t<CODE == ZX_NO_MEMORY, as_bad_alloc,
+                       std::conditional_t<CODE == ZX_OUT_OF_RANGE || CODE == ZX_ABSENT, as_out_of_range, as_system_error>>;
+
+/// A refusal that is thrown: an exception of std, and `refused`.
+template <class Standard> class refusal : public Standard, public refused {
+  public:
+    explicit refusal(zx_code code) : Standard(code), refused(code) {}
+    using refused::code;
+    const char *what() const noexcept override { return Standard::what(); }
 
   private:
     const std::exception &standard() const noexcept override { return *this; }
 };
 
+} // namespace detail
+
 /// The error of one code, so that a program can catch it alone.
-template <zx_code CODE> class error_of : public refused {
+template <zx_code CODE> class error_of : public detail::refusal<detail::standard_of<CODE>> {
   public:
-    error_of() : refused(CODE) {}
+    error_of() : detail::refusal<detail::standard_of<CODE>>(CODE) {}
 };
 
 using read_only = error_of<ZX_READ_ONLY>;
@@ -128,9 +185,9 @@ using no_file = error_of<ZX_FILE_NONE>;
 
 /// The bytes are no image of a segment. `number()` is the class of docs/FORMAT.md, from 1 to 12, and `place()` the
 /// offset of a byte that shows it, as `zx_explain` says.
-class bad_image : public refused {
+class bad_image : public detail::refusal<detail::as_system_error> {
   public:
-    explicit bad_image(zx_code code, std::uint64_t place = 0) : refused(code), place_(place) {}
+    explicit bad_image(zx_code code, std::uint64_t place = 0) : refusal(code), place_(place) {}
     int number() const noexcept { return static_cast<int>(code()) - 100; }
     std::uint64_t place() const noexcept { return place_; }
 
@@ -165,7 +222,7 @@ class bad_image : public refused {
     case ZX_FILE_NONE: throw no_file();
     default:
         if (ZX_TRUNCATED <= code && code <= ZX_ORPHAN_BLOCK) throw bad_image(code, place);
-        throw refused(code);
+        throw detail::refusal<detail::as_system_error>(code);
     }
 }
 
@@ -418,7 +475,7 @@ template <class T> using value_of = std::conditional_t<std::is_arithmetic_v<T>, 
 
 namespace detail {
 
-class viewed_bytes;
+struct viewed_bytes;
 template <class T, class R, class = void> inline constexpr bool is_row = false;
 /// The base of what reads elements of a segment. A call copies them: it may move what `data()` refers to.
 struct in_segment {};
@@ -467,7 +524,7 @@ template <class T> class slice {
     const T *end() const noexcept { return at_ + count_; }
 
   private:
-    friend class detail::viewed_bytes;
+    friend struct detail::viewed_bytes;
 
     template <class R> void copy(const R &range) {
         count_ = static_cast<std::size_t>(std::distance(std::begin(range), std::end(range)));
@@ -646,8 +703,7 @@ namespace detail {
 
 /// The bytes of a segment to which the program has pointers, since it asked for a view or an address. A call that takes
 /// such bytes gets a copy of them: it may move the object, or the whole segment, before it reads them.
-class viewed_bytes {
-  public:
+struct viewed_bytes {
     void add(const void *at, std::size_t len) noexcept {
         if (len == 0) return;
         begin_ = std::min(begin_, address(at));
@@ -1167,7 +1223,8 @@ template <class T> class value_kept<T, true> {
 };
 
 /// One element. It reads when a value is needed, and writes when one is assigned. It stays valid as long as the
-/// segment.
+/// segment. `swap` and `std::iter_swap` swap two elements. `std::swap` would move an element where it has to move a value,
+/// so an element is not moved, and then that does not compile.
 template <class Access> class element : private value_kept<typename Access::value_type> {
   public:
     using value_type = typename Access::value_type;
@@ -1175,6 +1232,8 @@ template <class Access> class element : private value_kept<typename Access::valu
 
     element(const typename Access::target &of, typename Access::index_type at) : of_(of), at_(at) {}
     element(const element &) = default;
+    element(element &&) = delete;
+    ~element() = default;
 
     [[nodiscard]] value_type value() const { return Access::get(of_, at_); }
     operator value_type() const { return value(); }
@@ -1248,6 +1307,8 @@ template <> class element<lines> : public read_as_text {
 
     element(spot of, std::uint64_t at) : of_(of), at_(at) {}
     element(const element &) = default;
+    element(element &&) = delete;
+    ~element() = default;
 
     [[nodiscard]] std::string value() const { return lines::get(of_, at_); }
     [[nodiscard]] std::string str() const { return value(); }
@@ -1300,6 +1361,10 @@ template <class T> auto text_of(const T &of) {
 
 template <class Access, class R> class iterator {
   public:
+#if __cplusplus >= 202002L
+    using iterator_concept = std::random_access_iterator_tag;
+#endif
+    // as that of std::vector<bool>, which gives proxies too: std::reverse, std::prev and their like take no other
     using iterator_category = std::random_access_iterator_tag;
     using value_type = typename Access::value_type;
     using difference_type = std::ptrdiff_t;
@@ -2478,6 +2543,10 @@ template <class K, class V> class const_map : public object {
     /// reads pairs ahead, up to 32, until a call changes the segment.
     class iterator {
       public:
+#if __cplusplus >= 202002L
+        using iterator_concept = std::bidirectional_iterator_tag;
+#endif
+        // std::prev takes no other
         using iterator_category = std::bidirectional_iterator_tag;
         using value_type = std::pair<K, V>;
         using difference_type = std::ptrdiff_t;
@@ -2867,30 +2936,25 @@ template <> struct std::hash<zaluxhoni::const_string> {
 };
 template <> struct std::hash<zaluxhoni::string> : std::hash<zaluxhoni::const_string> {};
 
-// `std::swap` of two elements swaps what they lead to. Without these it would not take what [] gives, and of two named
-// elements it would copy one and lose the value
-namespace std {
-template <class Access>
-void swap(const zaluxhoni::detail::element<Access> &a, const zaluxhoni::detail::element<Access> &b) {
-    swap_elements(a, b);
-}
-template <class Access> void swap(zaluxhoni::detail::element<Access> &a, zaluxhoni::detail::element<Access> &b) {
-    swap_elements(a, b);
-}
-} // namespace std
-
 #ifdef __cpp_lib_format
-/// Formats a text as a text, and an element as its value.
-template <class T>
-    requires zaluxhoni::detail::is_text_read<T>
-struct std::formatter<T, char> : std::formatter<std::string_view, char> {
+namespace zaluxhoni::detail {
+/// Formats a text as a text.
+template <class T> struct text_formatter : std::formatter<std::string_view, char> {
     template <class Context> auto format(const T &of, Context &context) const {
         const std::string text = of.str();
         return std::formatter<std::string_view, char>::format(text, context);
     }
 };
+} // namespace zaluxhoni::detail
+
+template <>
+struct std::formatter<zaluxhoni::const_string, char> : zaluxhoni::detail::text_formatter<zaluxhoni::const_string> {};
+template <> struct std::formatter<zaluxhoni::string, char> : zaluxhoni::detail::text_formatter<zaluxhoni::string> {};
+template <>
+struct std::formatter<zaluxhoni::detail::element<zaluxhoni::detail::lines>, char>
+    : zaluxhoni::detail::text_formatter<zaluxhoni::detail::element<zaluxhoni::detail::lines>> {};
+/// Formats an element as its value.
 template <class Access>
-    requires(!zaluxhoni::detail::is_text_read<zaluxhoni::detail::element<Access>>)
 struct std::formatter<zaluxhoni::detail::element<Access>, char> : std::formatter<typename Access::value_type, char> {
     template <class Context> auto format(const zaluxhoni::detail::element<Access> &of, Context &context) const {
         return std::formatter<typename Access::value_type, char>::format(of.value(), context);

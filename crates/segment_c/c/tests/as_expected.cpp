@@ -387,6 +387,8 @@ static_assert(std::sortable<zaluxhoni::array<double>::iterator>);
 static_assert(std::ranges::input_range<zaluxhoni::map<i32, i64>> &&
               std::ranges::input_range<zaluxhoni::const_map<u8, bool>>);
 static_assert(!std::ranges::output_range<zaluxhoni::const_vector<i64>, i64>);
+static_assert(std::is_same_v<zaluxhoni::vector<i64>::iterator::iterator_concept, std::random_access_iterator_tag>);
+static_assert(std::is_same_v<zaluxhoni::map<i32, i64>::iterator::iterator_concept, std::bidirectional_iterator_tag>);
 #endif
 
 void bulk() {
@@ -974,6 +976,65 @@ void errors() {
     }
 }
 
+/// Catches what a call throws as an exception of std, and tells whether it is an error of the library with this code.
+template <class Standard, class Call> bool is_caught_as(zx_code code, Call call) {
+    try {
+        call();
+    } catch (const Standard &error) {
+        const auto *const of = dynamic_cast<const zaluxhoni::error *>(&error);
+        return of != nullptr && of->code() == code && of->what() == std::string(error.what()) &&
+               &static_cast<const std::exception &>(*of) == &error && zaluxhoni::words(code) == error.what();
+    }
+    return false;
+}
+
+/// Errors are what a program of std expects: std::out_of_range, std::bad_alloc, std::system_error with one category.
+void errors_of_std() {
+    segment s = segment::create(4096);
+    const auto v = s.vector<i64>("v");
+    v.push_back(1);
+    const auto read = std::as_const(s).vector<i64>("v");
+    const auto m = s.map<i64, i64>("m");
+    const auto list = s.strings("list");
+    IS(is_caught_as<std::out_of_range>(ZX_OUT_OF_RANGE, [&] { return read.at(1); }));
+    IS(is_caught_as<std::out_of_range>(ZX_OUT_OF_RANGE, [&] { return v.get(1); }));
+    IS(is_caught_as<std::out_of_range>(ZX_OUT_OF_RANGE, [&] { v[1] = 2; }));
+    IS(is_caught_as<std::out_of_range>(ZX_OUT_OF_RANGE, [&] { v.erase(1); }));
+    IS(is_caught_as<std::out_of_range>(ZX_OUT_OF_RANGE, [&] { return v.view()[1]; }));
+    IS(is_caught_as<std::out_of_range>(ZX_OUT_OF_RANGE, [&] { return list.pop_back(); }));
+    IS(is_caught_as<std::out_of_range>(ZX_OUT_OF_RANGE, [&] { s.vector<u8>("u8").push_back(256); }));
+    IS(is_caught_as<std::logic_error>(ZX_ABSENT, [&] { return m.at(1); }));
+    IS(is_caught_as<std::out_of_range>(ZX_ABSENT, [&] { return m[1].value(); }));
+    IS(is_caught_as<std::system_error>(ZX_NOT_FOUND, [&] { return s.get<i64>("none"); }));
+    IS(is_caught_as<std::runtime_error>(ZX_NO_SPACE, [&] { v.reserve(1000); }));
+    IS(is_caught_as<std::system_error>(ZX_BAD_MAGIC, [&] { return segment::open(std::vector<u8>(144, 7)); }));
+    IS(is_caught_as<std::bad_alloc>(ZX_NO_MEMORY, [] { zaluxhoni::throw_code(ZX_NO_MEMORY); }));
+    for (zx_code code = 1; code <= 200; code++) {
+        if (code == ZX_OUT_OF_RANGE || code == ZX_ABSENT || code == ZX_NO_MEMORY) continue;
+        IS(is_caught_as<std::system_error>(code, [&] { zaluxhoni::throw_code(code); }));
+        IS(is_caught_as<std::exception>(code, [&] { zaluxhoni::throw_code(code); }));
+        throws<zaluxhoni::refused>(__LINE__, "refused", [&] { zaluxhoni::throw_code(code); });
+    }
+    try {
+        v.reserve(1000);
+    } catch (const std::system_error &error) {
+        IS(error.code() == std::error_code(ZX_NO_SPACE, zaluxhoni::category()) && error.code() != std::errc::no_such_process);
+        IS(error.code().category().name() == "zaluxhoni"s && error.code().message() == zaluxhoni::words(ZX_NO_SPACE));
+    }
+    IS(std::error_code(ZX_NO_MEMORY, zaluxhoni::category()) == std::errc::not_enough_memory);
+    try {
+        v.reserve(1000);
+    } catch (const zaluxhoni::no_space &error) {
+        IS(error.code() == ZX_NO_SPACE);
+    }
+    // each can be caught as std::exception, which it is once
+    static_assert(std::is_convertible_v<zaluxhoni::out_of_range *, std::exception *>);
+    static_assert(std::is_convertible_v<zaluxhoni::no_memory *, std::exception *>);
+    static_assert(std::is_convertible_v<zaluxhoni::bad_image *, std::exception *>);
+    static_assert(std::is_convertible_v<zaluxhoni::file_in_use *, std::exception *>);
+    static_assert(std::is_convertible_v<zaluxhoni::outdated *, std::exception *>);
+}
+
 /// A size that no segment has is refused as the library refuses one, and takes no memory.
 void sizes_that_do_not_fit() {
     segment s = segment::create(4096);
@@ -1008,11 +1069,12 @@ void swapped() {
     texts.push_back(texts.back());
     IS(texts.size() == 4 && texts[0] == "a" && texts[3] == "a");
     texts[1] = "b";
-    std::swap(v[0], v[1]);
+    swap(v[0], v[1]);
     IS(v[0] == 2 && v[1] == 1);
     auto first = v[0], second = v[1];
-    std::swap(first, second);
+    swap(first, second);
     IS(v[0] == 1 && v[1] == 2);
+    static_assert(std::is_swappable_v<decltype(first)> && !std::is_move_constructible_v<decltype(first)>);
     {
         using std::swap;
         swap(first, second);
@@ -1021,8 +1083,8 @@ void swapped() {
         IS(v[0] == 1 && v[1] == 2);
     }
     std::iter_swap(v.begin(), v.begin() + 1);
-    std::swap(items[0], items[1]);
-    std::swap(texts[0], texts[1]);
+    swap(items[0], items[1]);
+    swap(texts[0], texts[1]);
     IS(v[0] == 2 && items[0]->article == 2 && (*items[1]).article == 1 && texts[0] == "b" && texts[1] == "a");
 }
 
@@ -1390,7 +1452,7 @@ void every_case() {
     void (*const cases[])() = {an_array_that_is_made_anew, numbers_that_do_not_fit, truths, texts_that_are_stored,
                                elements, texts, FORMATS algorithms, bulk, own_types, views_without_a_copy,
                                views_that_are_passed, iterators_in_place, iterators_and_modes, several_calls_as_one,
-                               transactions_and_files, const_segments, groups, segments_that_grow, errors,
+                               transactions_and_files, const_segments, groups, segments_that_grow, errors, errors_of_std,
                                sizes_that_do_not_fit, swapped, projected, members_as_in_std, maps_both_ways,
                                members_that_are_written, moved_from, objects_found_or_made,
                                storage_that_cannot_double, an_open_that_waits};

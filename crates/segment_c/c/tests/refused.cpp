@@ -148,6 +148,23 @@ struct leads {
 #else
     (*s.find_or_construct<point>("p", point{1, 2})).modify([](point &of) { bump(of.x); });
 #endif
+    auto first = v[0], second = v[1];
+#if CASE == 27
+    std::swap(first, second);
+#else
+    swap(first, second);
+#endif
+#if CASE == 28
+    std::swap(v[0], v[1]);
+#else
+    std::iter_swap(v.begin(), v.begin() + 1);
+#endif
+    auto text = s.strings("l")[0], other = s.strings("l")[1];
+#if CASE == 29
+    std::swap(text, other);
+#else
+    swap(text, other);
+#endif
     static_cast<void>(kept);
 }
 

@@ -9,11 +9,11 @@ use crate::locks::{
     FileLock, Identity, PAUSE, are_different, has_bytes, is_written, leads_to, lock, lock_made,
     open_to_write, sync_file,
 };
-use crate::logs::{has_log, log_paths, read_recovered};
+use crate::logs::{has_no_record, log_paths, read_recovered};
 use crate::open_log::OpenLog;
 use crate::presence::{AlreadyLocked, Comparison, FileProblem, NotOpened, Presence, SaveMode};
 use crate::replacement_file::ReplacementFile;
-use crate::settling::{drop_log, put_in_place, settle};
+use crate::settling::{drop_log, keeps_records, put_in_place, settle};
 use crate::spare_file::{SpareFile, is_folder_synced, sync_folder};
 use crate::sparse::{SparseFile, longest_file};
 use crate::std_output::StdOutput;
@@ -260,9 +260,10 @@ impl<'a, R: Files<File = File> + AllocGlobal + Clock> HostDisk<'a, R> {
             return;
         }
         if self.keeps_logs {
-            hold.log = match has_log(self.files, path) {
+            hold.log = match keeps_records(self.files, path) {
                 Ok(false) => None,
-                _ => Some(FileProblem::Log),
+                Ok(true) => Some(FileProblem::Log),
+                Err(trouble) => Some(trouble.unwrap_or(FileProblem::Unwritten)),
             };
             return;
         }
@@ -310,7 +311,7 @@ impl<'a, R: Files<File = File> + AllocGlobal + Clock> HostDisk<'a, R> {
         let may_have_log = self.has_logs && found.is_file();
         // a checkpoint replaces the file before it empties the log
         let is_alone = !may_have_log
-            || matches!(has_log(self.files, path), Ok(false)) && leads_to(self.files, path, &file);
+            || has_no_record(self.files, path) && leads_to(self.files, path, &file);
         if is_alone {
             let reader = StdSource::new(HostReader::Plain(file));
             let len = found.len();

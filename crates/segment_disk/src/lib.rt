@@ -4,6 +4,7 @@
 
 mod disk;
 mod file_problems;
+mod found_log;
 mod host;
 mod host_reader;
 mod image_reader;

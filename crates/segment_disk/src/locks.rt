@@ -34,7 +34,7 @@ pub(crate) enum Identity {
 
 impl Identity {
     /// Returns the identity of a file by its metadata.
-    fn new(found: &Metadata) -> Identity {
+    pub(crate) fn new(found: &Metadata) -> Identity {
         Identity::Inode {
             device: found.dev(),
             number: found.ino(),
@@ -91,6 +91,26 @@ impl FileLock {
 /// Tells whether a path still leads to a file that was opened by it.
 pub(crate) fn leads_to<R: Files<File = File>>(files: &R, path: &str, file: &File) -> bool {
     Identity::at(files, path).is_ok_and(|named| Identity::of(file) == Some(named))
+}
+
+/// Returns true if a name leads to an open file, and is no link to it.
+pub(crate) fn is_named<R: Files<File = File>>(files: &R, path: &str, file: &File) -> bool {
+    match fs::symlink_metadata(files, path) {
+        Ok(found) => Identity::of(file) == Some(Identity::new(&found)),
+        Err(_) => false,
+    }
+}
+
+/// Removes the name of an open file, if it still leads to that file.
+pub(crate) fn remove_named<R: Files<File = File>>(
+    files: &R,
+    path: &str,
+    file: &File,
+) -> io::Result<()> {
+    if !is_named(files, path, file) {
+        return Err(io::Error::from(ErrorKind::NotFound));
+    }
+    fs::remove_file(files, path)
 }
 
 /// Opens a file for writing, and changes nothing of it.

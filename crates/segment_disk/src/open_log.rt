@@ -2,16 +2,19 @@
 ghost use Rattle.std.specs.Prelude.{IfOk};
 ghost use Rattle.segment_disk.specs.Logs.{StandsCommitted};
 
-use crate::locks::{FileLock, Identity, are_different, leads_to, open_to_write, sync_file};
-use crate::logs::{LogTrouble, committed, has_log, log_paths, read_file, read_log, trouble_of};
+use crate::found_log::{FoundLog, end_empty, log_beside};
+use crate::locks::{
+    FileLock, Identity, are_different, is_named, open_to_write, remove_named, sync_file,
+};
+use crate::logs::{LogTrouble, committed, log_paths, read_file, trouble_of};
 use crate::presence::FileProblem;
 use crate::replacement_file::take_rights;
 use crate::settling::renew_log;
 use crate::spare_file::{SpareFile, is_folder_synced};
-use crate::sparse::{are_zeros, longest_file};
-use segment_log::{CommittedImage, GATE_LEN, LogFault};
+use crate::sparse::longest_file;
+use segment_log::{CommittedImage, LogFault};
 use std::fs::{self, File};
-use std::io::{self, ErrorKind, Read, Write};
+use std::io::{self, ErrorKind, Write};
 use std::os::unix::fs::FileExt;
 use std::path::PathBuf;
 use std::rt::Files;
@@ -53,30 +56,6 @@ fn synced_bytes<R: Files<File = File> + AllocGlobal>(
     }
 }
 
-/// Returns true if a file begins with a shut gate. The log has no record then.
-fn is_shut(mut log: File) -> io::Result<bool> {
-    let mut gate = [1; GATE_LEN];
-    match log.read_exact(&mut gate) {
-        Ok(()) => Ok(are_zeros(&gate)),
-        Err(error) if error.kind() == ErrorKind::UnexpectedEof => Ok(false),
-        Err(error) => Err(error),
-    }
-}
-
-/// Removes a log without a record that a writer left. Another file that has the name of a log stays.
-fn remove_left<R: Files<File = File>>(files: &R, path: &str) -> io::Result<()> {
-    match fs::symlink_metadata(files, path) {
-        Ok(found) if found.is_file() => {}
-        Ok(_) => return Err(io::Error::from(ErrorKind::AlreadyExists)),
-        Err(error) if error.kind() == ErrorKind::NotFound => return Ok(()),
-        Err(error) => return Err(error),
-    }
-    if !is_shut(fs::open(files, path)?)? {
-        return Err(io::Error::from(ErrorKind::AlreadyExists));
-    }
-    fs::remove_file(files, path)
-}
-
 /// Gives a log the rights of its file, and writes its shut gate through.
 fn write_gate(log: &mut File, file: &File, gate: &[u8]) -> io::Result<()> {
     take_rights(log, &file.metadata()?)?;
@@ -91,7 +70,6 @@ fn make_log<R: Files<File = File> + AllocGlobal + Clock>(
     file: &File,
     gate: &[u8],
 ) -> io::Result<File> {
-    remove_left(rt, path)?;
     let (mut log, spare, _) = SpareFile::make(rt, path, 0o600)?;
     let named = match write_gate(&mut log, file, gate) {
         Ok(()) => spare.give_name(rt, path),
@@ -108,17 +86,27 @@ fn make_log<R: Files<File = File> + AllocGlobal + Clock>(
     }
 }
 
-/// Returns the bytes of the log of a path if it is beside its file and has a record, and none otherwise.
+/// Returns the problem with what has the name of a log and is none.
+fn in_the_way<R: Files<File = File>>(files: &R, log: &str) -> FileProblem {
+    match fs::symlink_metadata(files, log) {
+        Ok(found) if found.is_file() && found.len() == 0 => FileProblem::EmptyLog,
+        _ => FileProblem::LogTaken,
+    }
+}
+
+/// Returns the bytes of the log beside a file if it has a record. A log without a record is removed.
 fn records_of<R: Files<File = File> + AllocGlobal>(
     rt: &R,
     file: &str,
     log: &str,
 ) -> Result<Vec<u8>, LogTrouble> {
-    if has_log(rt, file).map_err(trouble_of)? {
-        read_log(rt, log)
-    } else {
-        Ok(Vec::new(rt.alloc()))
+    match log_beside(rt, file).map_err(trouble_of)? {
+        FoundLog::Nothing => {}
+        FoundLog::Foreign => return Err(Some(in_the_way(rt, log))),
+        FoundLog::Empty(found) => end_empty(rt, log, &found).map_err(trouble_of)?,
+        FoundLog::Records(mut found) => return read_file(rt.alloc(), &mut found),
     }
+    Ok(Vec::new(rt.alloc()))
 }
 
 impl OpenLog {
@@ -162,7 +150,7 @@ impl OpenLog {
 
     /// Tells whether the log and the held file still have their names.
     pub(crate) fn is_beside<R: Files<File = File>>(&self, files: &R, lock: &FileLock) -> bool {
-        leads_to(files, self.path.as_str(), &self.log)
+        is_named(files, self.path.as_str(), &self.log)
             && !are_different(
                 lock.identity(),
                 Identity::at(files, self.file.as_str()).ok(),
@@ -191,8 +179,6 @@ impl OpenLog {
 
     /// Removes the log, if it still has its name and can be removed.
     pub(crate) fn remove<R: Files<File = File>>(&self, files: &R) {
-        if leads_to(files, self.path.as_str(), &self.log) {
-            let _ = fs::remove_file(files, self.path.as_str());
-        }
+        let _ = remove_named(files, self.path.as_str(), &self.log);
     }
 }

@@ -1,13 +1,14 @@
 //! The end of a log: its commits become the file, before the file is written otherwise.
 ghost use Rattle.std.specs.Prelude.{⊤};
 
-use crate::locks::{FileLock, Identity, open_to_write, sync_file};
-use crate::logs::{LogTrouble, committed, has_log, log_paths, read_file, read_log, trouble_of};
+use crate::found_log::{FoundLog, end_empty, find_log};
+use crate::locks::{FileLock, Identity, open_to_write, remove_named, sync_file};
+use crate::logs::{LogTrouble, committed, log_paths, read_file, trouble_of};
 use crate::presence::FileProblem;
 use crate::replacement_file::ReplacementFile;
 use crate::spare_file::is_folder_synced;
 use crate::sparse::{SparseFile, longest_file};
-use segment_log::{LogDisk, LogFault, checkpoint, next_record};
+use segment_log::{LogDisk, LogFault, checkpoint};
 use std::fs::{self, File};
 use std::io::{self, ErrorKind, Write};
 use std::os::unix::fs::FileExt;
@@ -107,21 +108,23 @@ pub(crate) fn renew_log<R: Files<File = File> + AllocGlobal + Clock>(
     open_to_write(rt, log)
 }
 
-/// Makes a file the image that it stands for with the records of its log, and tells whether there is one.
+/// Makes a file the image that it stands for with the records of its log, which is open, and removes the log.
 fn settle_records<R: Files<File = File> + AllocGlobal + Clock>(
     rt: &R,
     path: &str,
     log: &str,
     lock: &mut FileLock,
-) -> Result<bool, LogTrouble> {
-    let records = read_log(rt, log)?;
+    found: File,
+) -> Result<(), LogTrouble> {
+    let mut open = found;
+    let records = read_file(rt.alloc(), &mut open)?;
     let mut file = fs::open(rt, path).map_err(trouble_of)?;
     if lock.identity().is_some() && Identity::of(&file) != lock.identity() {
         return Err(Some(FileProblem::Exists));
     }
     let (kept, gated) = committed(rt.alloc(), read_file(rt.alloc(), &mut file)?, &records)?;
     if kept.end == 0 {
-        return Ok(false);
+        return end_empty(rt, log, &open).map_err(trouble_of);
     }
     let mut files = LoggedFile {
         rt,
@@ -129,14 +132,16 @@ fn settle_records<R: Files<File = File> + AllocGlobal + Clock>(
         log: renew_log(rt, log, &gated).map_err(trouble_of)?,
         trouble: None,
     };
-    match checkpoint(rt.alloc(), &mut files, lock, &kept.image) {
-        Ok(()) => Ok(true),
-        Err(_) => Err(files.trouble),
+    if checkpoint(rt.alloc(), &mut files, lock, &kept.image).is_err() {
+        return Err(files.trouble);
     }
+    remove_named(rt, log, &files.log).map_err(trouble_of)?;
+    is_folder_synced(rt, path);
+    Ok(())
 }
 
-/// Puts the commits of the log beside a file, if there is one, into the file, which is replaced by a new one, and
-/// removes the log. A crash at any moment leaves the image.
+/// Removes the log beside a file that is locked, if there is one. Its commits are put into the file before, which is
+/// replaced by a new one. A crash at any moment leaves the image. What is no log of this library stays.
 ///
 /// # Errors
 ///
@@ -146,27 +151,45 @@ pub(crate) fn settle<R: Files<File = File> + AllocGlobal + Clock>(
     path: &str,
     lock: &mut FileLock,
 ) -> Result<(), LogTrouble> {
-    if !has_log(rt, path).map_err(trouble_of)? {
+    let found = find_log(rt, path).map_err(trouble_of)?;
+    if matches!(found, FoundLog::Nothing | FoundLog::Foreign) {
         return Ok(());
     }
     let (real, log) = log_paths(rt, path).map_err(trouble_of)?;
-    if settle_records(rt, real.as_str(), log.as_str(), lock)? {
-        fs::remove_file(rt, log.as_str()).map_err(trouble_of)?;
-        is_folder_synced(rt, real.as_str());
+    match found {
+        FoundLog::Nothing | FoundLog::Foreign => Ok(()),
+        FoundLog::Empty(file) => end_empty(rt, log.as_str(), &file).map_err(trouble_of),
+        FoundLog::Records(file) => settle_records(rt, real.as_str(), log.as_str(), lock, file),
     }
-    Ok(())
+}
+
+/// Removes the log beside a file that is locked if it has no record, and returns true if it has one.
+///
+/// # Errors
+///
+/// Why that can't be done, as far as that is known.
+pub(crate) fn keeps_records<R: Files<File = File> + AllocGlobal>(
+    rt: &R,
+    path: &str,
+) -> Result<bool, LogTrouble> {
+    match find_log(rt, path).map_err(trouble_of)? {
+        FoundLog::Nothing | FoundLog::Foreign => Ok(false),
+        FoundLog::Records(_) => Ok(true),
+        FoundLog::Empty(file) => {
+            let (_, log) = log_paths(rt, path).map_err(trouble_of)?;
+            end_empty(rt, log.as_str(), &file).map_err(trouble_of)?;
+            Ok(false)
+        }
+    }
 }
 
 /// Removes a log with records that was left beside the name of a file that was just made: it stands for nothing. If it
 /// can't be removed, the file is refused from then on.
 pub(crate) fn drop_log<R: Files<File = File> + AllocGlobal>(rt: &R, path: &str) {
-    if !matches!(has_log(rt, path), Ok(true)) {
-        return;
-    }
-    let Ok((_, log)) = log_paths(rt, path) else {
+    let Ok(FoundLog::Records(file)) = find_log(rt, path) else {
         return;
     };
-    if read_log(rt, log.as_str()).is_ok_and(|bytes| next_record(&bytes).is_some()) {
-        let _ = fs::remove_file(rt, log.as_str());
+    if let Ok((_, log)) = log_paths(rt, path) {
+        let _ = remove_named(rt, log.as_str(), &file);
     }
 }

@@ -40,10 +40,11 @@ class Ended(Exception):
 class Traced:
     """A run of the program that is stopped in front of each of its calls of the system. `before` is asked with the name
     of the call and the names of its files, their last parts; it may answer with a number of an error, and the call is not
-    made and fails so. The run keeps the calls that have a name in CALLS."""
+    made and fails so. `with_words` is told the words of the call and the process too. The run keeps the calls that have a
+    name in CALLS."""
 
-    def __init__(self, words, before=lambda call, names: None, user=None):
-        self.before, self.calls = before, []
+    def __init__(self, words, before=lambda call, names: None, user=None, with_words=None):
+        self.before, self.with_words, self.calls = before, with_words, []
         out, err = tempfile.TemporaryFile(), tempfile.TemporaryFile()
 
         def first():
@@ -86,6 +87,8 @@ class Traced:
             return self.go_on()
         names = self.names(number, words)
         self.calls.append((CALLS[number], *names))
+        if self.with_words is not None:
+            self.with_words(CALLS[number], names, words, self.at)
         answer = self.before(CALLS[number], names)
         return self.go_on() if answer is None else self.answered(answer)
 
@@ -229,3 +232,368 @@ def test_a_log_that_is_not_synced_bars_the_file(made):
     )
     assert run.status == 3 and "write fault" in run.err
     assert read("a.seg") == made[0] and read("a.seg-log") == log
+
+
+# ---- a file that is made
+
+MAKERS = [["create", "a.seg", "4096"], ["create", "a.seg", "4096", "--replace"]]
+
+
+@pytest.mark.parametrize("words", MAKERS, ids=" ".join)
+def test_what_takes_the_name_of_a_file_that_is_made_stays(made, words):
+    """In front of each call another file takes the name, and has a log: both stay."""
+    log = log_of(made)
+    at, is_there, taken = 0, True, 0
+    while is_there:
+        at, is_there, is_taken, calls = at + 1, False, False, 0
+        for name in ("a.seg", "a.seg-log"):
+            if os.path.lexists(name):
+                os.remove(name)
+
+        def before(call, names):
+            nonlocal is_there, is_taken, calls
+            calls += 1
+            if calls == at:
+                is_there = True
+                if os.path.exists("a.seg"):
+                    is_taken = True
+                    put("next.seg", made[0])
+                    os.rename("next.seg", "a.seg")
+                    put("a.seg-log", log)
+
+        Traced(words, before)
+        if is_taken:
+            taken += 1
+            assert read("a.seg") == made[0] and read("a.seg-log") == log, f"behind call {at}"
+        assert hidden() == []
+    assert taken > 0
+
+
+@pytest.mark.parametrize("words", MAKERS, ids=" ".join)
+def test_a_log_that_comes_before_the_name_is_looked_at_behind_it(made, words):
+    """A log with commits comes in front of the call that makes the name: nothing is made, and the log stays."""
+    log = log_of(made)
+    os.remove("a.seg")
+
+    def before(call, names):
+        if call in ("open", "link") and "a.seg" in names:
+            put("a.seg-log", log)
+
+    run = Traced([*words, "--verbose"], before)
+    assert run.status == 3
+    assert "has commits of a file that is gone; remove or rename it" in run.err
+    assert os.listdir(".") == ["a.seg-log"] and read("a.seg-log") == log
+
+
+@pytest.mark.parametrize("words", MAKERS, ids=" ".join)
+def test_the_folder_is_synced_behind_the_name(words):
+    run = Traced(words)
+    assert run.status == 0
+    named = max(at for at, call in enumerate(run.calls) if call[0] in ("open", "link") and "a.seg" in call)
+    folder = os.path.basename(os.getcwd())
+    assert ("fsync", folder) in run.calls[named:]
+
+
+def test_a_name_without_a_second_one_is_kept_under_a_lock():
+    """Where a file has one name alone, an empty file keeps it, which nobody else can lock."""
+    seen = []
+
+    def before(call, names):
+        if call == "link":
+            return errno.EPERM
+        if call == "rename":
+            with open("a.seg", "rb") as kept, pytest.raises(BlockingIOError):
+                fcntl.flock(kept, fcntl.LOCK_EX | fcntl.LOCK_NB)
+            seen.append(os.path.getsize("a.seg"))
+        return None
+
+    assert Traced(["create", "a.seg", "4096", "--replace"], before).status == 0
+    assert seen == [0] and segment("check", "a.seg").returncode == 0
+
+
+def test_what_takes_a_kept_name_stays(made):
+    """Another file takes the name that an empty one keeps, before that is locked."""
+    os.remove("a.seg")
+
+    def before(call, names):
+        if call == "link":
+            return errno.EPERM
+        if call == "flock" and names == ["a.seg"]:
+            put("next.seg", made[1])
+            os.rename("next.seg", "a.seg")
+        return None
+
+    assert Traced(["create", "a.seg", "4096", "--replace"], before).status == 3
+    assert read("a.seg") == made[1] and hidden() == []
+
+
+def test_a_kept_name_is_removed_where_the_file_is_gone():
+    def before(call, names):
+        if call == "link":
+            return errno.EPERM
+        if call == "rename":
+            os.remove(hidden()[0])
+        return None
+
+    assert Traced(["create", "a.seg", "4096", "--replace"], before).status == 3
+    assert os.listdir(".") == []
+
+
+@pytest.mark.parametrize("words", [["run", "--replace"], ["create", "--replace"]], ids=" ".join)
+def test_a_call_that_names_and_says_that_it_failed(made, words):
+    """A file may have its name though the call says that it failed: then it is done."""
+    is_made = words[0] == "create"
+    if is_made:
+        os.remove("a.seg")
+
+    def before(call, names):
+        if call == ("link" if is_made else "rename") and "a.seg" in names:
+            os.rename(hidden()[0], "a.seg")
+            return errno.EIO
+        return None
+
+    more = ["4096", "--replace"] if is_made else ["--replace", "-c", "set n 0 2"]
+    assert Traced([words[0], "a.seg", *more], before).status == 0
+    assert hidden() == [] and (is_made or number() == 2)
+
+
+# ---- names are looked at before each rename and removal
+
+
+@pytest.mark.parametrize("words", [["--replace", "-c", "set n 0 9"], ["-c", "size"]], ids=" ".join)
+def test_a_file_that_takes_the_name_is_not_replaced(made, words):
+    """Another file takes the name while the new one is written."""
+    if "--replace" not in words:
+        put("a.seg-log", log_of(made))
+
+    def before(call, names):
+        if call in ("write", "pwrite") and names[0].startswith(".zaluxhoni-"):
+            put("next.seg", made[1])
+            os.rename("next.seg", "a.seg")
+        return None
+
+    run = Traced(["run", "a.seg", *words], before)
+    assert run.status == 3
+    assert read("a.seg") == made[1] and hidden() == []
+
+
+def test_a_log_that_takes_the_name_is_not_replaced(made):
+    log, other = log_of(made), log_of(made[:2])
+    put("a.seg-log", log)
+
+    def before(call, names):
+        if call == "pwrite" and names[0].startswith(".zaluxhoni-"):
+            put("other", other)
+            os.rename("other", "a.seg-log")
+        return None
+
+    run = Traced(["run", "a.seg", "--commit", "-c", "set n 0 9"], before)
+    assert run.status == 3
+    assert read("a.seg") == made[0] and read("a.seg-log") == other and hidden() == []
+
+
+@pytest.mark.parametrize("words", SAVERS, ids=" ".join)
+def test_a_link_with_the_name_of_a_log_is_not_followed(made, words):
+    """In front of each call a link takes the name of the log: what it leads to stays as it is."""
+    log = log_of(made)
+    at, is_there = 0, True
+    while is_there:
+        at, is_there, calls = at + 1, False, 0
+        put("a.seg", made[0])
+        put("a.seg-log", log)
+        put("target", log)
+        kept = os.stat("target")
+
+        def before(call, names):
+            nonlocal is_there, calls
+            calls += 1
+            if calls == at:
+                is_there = True
+                os.symlink("target", "link")
+                os.rename("link", "a.seg-log")
+
+        Traced(["run", "a.seg", *words], before)
+        found = os.stat("target")
+        assert (found.st_ino, found.st_mode, read("target")) == (kept.st_ino, kept.st_mode, log), f"behind call {at}"
+
+
+# ---- what is synced
+
+
+def test_the_same_again_behind_a_gate_that_was_not_synced(made):
+    """A commit whose gate is not synced may be found and lost: the same commit again is written to a new log."""
+    syncs = 0
+
+    def before(call, names):
+        nonlocal syncs
+        # a log that got its name by a link is still known by the hidden one
+        if call == "fsync" and names[0].startswith(".zaluxhoni-") and os.path.exists("a.seg-log"):
+            syncs += 1
+            return errno.EIO if syncs == 2 else None
+        return None
+
+    assert Traced(["run", "a.seg", "--commit", "-c", "set n 0 9"], before).status == 3
+    assert number() == 9
+    left = os.stat("a.seg-log").st_ino
+    run = Traced(["run", "a.seg", "--commit", "-c", "set n 0 9"])
+    assert run.status == 0 and number() == 9
+    assert os.stat("a.seg-log").st_ino != left
+    assert any(call[0] == "fsync" and call[1].startswith(".zaluxhoni-") for call in run.calls)
+
+
+@pytest.mark.parametrize("words", [["-c", "size"], ["--replace", "-c", "size"]], ids=" ".join)
+def test_a_file_that_has_the_image_is_synced_with_its_name(made, words):
+    """Who wrote the image may have been killed before it was synced."""
+    run = Traced(["run", "a.seg", *words])
+    assert run.status == 0
+    assert ("fsync", "a.seg") in run.calls and ("fsync", os.path.basename(os.getcwd())) in run.calls
+
+
+def test_a_save_in_place_syncs_the_name(made):
+    """Who gave the file its name may have been killed before that was synced."""
+    run = Traced(["run", "a.seg", "-c", "set n 0 2"])
+    assert run.status == 0
+    assert ("fsync", "a.seg") in run.calls and ("fsync", os.path.basename(os.getcwd())) in run.calls
+
+
+@pytest.mark.skipif(os.getuid() != 0, reason="root alone becomes another user")
+@pytest.mark.parametrize(
+    "words",
+    [["create", "d/b.seg", "4096"], ["create", "d/b.seg", "4096", "--replace"], ["run", "d/a.seg", "--replace", "-c", "set n 0 2"],
+     ["run", "d/a.seg", "--commit", "-c", "set n 0 2"]],
+    ids=" ".join,
+)
+def test_a_name_that_can_not_be_synced_is_not_made(made, words):
+    os.mkdir("d")
+    put("d/a.seg", made[0])
+    for name in ("d/a.seg", "d"):
+        os.chown(name, 65534, 65534)
+    for name in (".", "..", "../.."):
+        os.chmod(name, 0o755)
+    os.chmod("d", 0o300)
+    run = Traced([*words[:2], "--verbose", *words[2:]], user=65534)
+    assert run.status == 3 and "its folder can not be read" in run.err, (run.status, run.err)
+    assert os.listdir("d") == ["a.seg"] and read("d/a.seg") == made[0]
+
+
+# ---- locks
+
+NO_LOCKS = [errno.EOPNOTSUPP, errno.ENOSYS, errno.EINVAL]
+
+
+@pytest.mark.parametrize("number_of_error", [errno.EBADF, errno.ENOLCK, errno.EIO, *NO_LOCKS])
+@pytest.mark.parametrize("words", SAVERS[1:], ids=" ".join)
+def test_a_file_that_is_not_locked_is_not_written(made, number_of_error, words):
+    """Where the system says that it locks no files, a file is written without a lock; each other failure is one."""
+    changing = [word if word != "size" else "set n 0 9" for word in words]
+    run = Traced(
+        ["run", "a.seg", *changing], lambda call, names: number_of_error if call == "flock" and names == ["a.seg"] else None
+    )
+    if number_of_error in NO_LOCKS:
+        assert run.status == 0 and number() == 9
+    else:
+        assert run.status == 3 and number() == 1 and os.listdir(".") == ["a.seg"]
+
+
+def test_a_signal_in_a_lock_is_no_answer(made):
+    asked = []
+
+    def before(call, names):
+        if call == "flock" and names == ["a.seg"]:
+            asked.append(call)
+            return errno.EINTR if len(asked) == 1 else None
+        return None
+
+    assert Traced(["run", "a.seg", "-c", "set n 0 9"], before).status == 0
+    assert number() == 9 and len(asked) > 1
+
+
+def test_a_file_is_open_for_writing_where_it_is_locked(made):
+    """Over NFS a file that is open for reading alone can't be locked for writing."""
+    modes = []
+
+    def before(call, names, words, at):
+        if call == "flock" and names == ["a.seg"]:
+            with open(f"/proc/{at}/fdinfo/{words[0]}") as told:
+                modes.append(int(told.read().split("flags:")[1].split()[0], 8) & os.O_ACCMODE)
+
+    assert Traced(["run", "a.seg", "-c", "set n 0 9"], with_words=before).status == 0
+    assert os.O_RDWR in modes
+
+
+# ---- a file with several names, and who may put a log beside a file
+
+
+def test_a_file_with_two_names_gets_no_log(made):
+    os.link("a.seg", "b.seg")
+    run = segment("run", "a.seg", "--commit", "--verbose", "-c", "set n 0 9")
+    assert run.returncode == 3
+    assert "has several names, and a log is found by one alone; copy it, or remove the others" in run.stderr
+    assert sorted(os.listdir(".")) == ["a.seg", "b.seg"] and number("b.seg") == 1
+
+
+@pytest.mark.skipif(os.getuid() != 0, reason="root alone gives files to others")
+def test_a_log_of_somebody_who_may_only_read_the_file_does_not_count(made):
+    log = log_of(made)
+    put("a.seg-log", log)
+    os.chown("a.seg-log", 65534, 65534)
+    os.chmod(".", 0o1777)
+    assert number() == 1
+    assert segment("run", "a.seg", "-c", "set n 0 9").returncode == 0
+    assert number() == 9 and read("a.seg-log") == log
+    run = segment("run", "a.seg", "--commit", "--verbose", "-c", "set n 0 8")
+    assert run.returncode == 3 and "is not its log; remove or rename it" in run.stderr
+    assert number() == 9 and read("a.seg-log") == log
+
+
+def test_a_new_log_has_the_rights_of_the_file(made):
+    """The log was made before the file was closed to others."""
+    put("a.seg-log", log_of(made))
+    os.chmod("a.seg-log", 0o644)
+    os.chmod("a.seg", 0o600)
+    assert segment("run", "a.seg", "--commit", "-c", "set n 0 9").returncode == 0
+    assert os.stat("a.seg-log").st_mode & 0o777 == 0o600
+
+
+# ---- readers
+
+
+def test_a_reader_beside_a_log_that_is_begun_anew(made):
+    """An older version empties a log in place: its first record may come again while a reader is in the middle of it. What
+    stands behind a shut gate is no commit."""
+    one, two, three = made
+    log, anew = log_of([one, two, one]), log_of([one, two, three])
+    second = len(log_of([one, two])) - 4096
+    at, is_there = 0, True
+    while is_there:
+        at, is_there, calls = at + 1, False, 0
+        put("a.seg", one)
+        put("a.seg-log", log)
+
+        def before(call, names):
+            nonlocal is_there, calls
+            if call in ("read", "pread") and names == ["a.seg-log"]:
+                calls += 1
+                if calls == at:
+                    is_there = True
+                    with open("a.seg-log", "r+b") as file:
+                        file.write(anew[:second] + b"\0" + anew[second + 1 :])
+
+        run = Traced(["run", "a.seg", "-r", "-c", "show n"], before)
+        assert run.out in ("i64 1\n", "i64 2\n"), (at, run.out, run.err)
+    assert at > 2
+
+
+def test_a_link_in_a_folder_of_any_name(made):
+    """The log is beside the file that a link leads to, also where its whole path is no text, or can't be found."""
+    os.mkdir(b"caf\xe9")
+    os.chdir(b"caf\xe9")
+    put("a.seg", made[0])
+    put("a.seg-log", log_of(made))
+    os.symlink("b", "link")
+    os.symlink("a.seg", "b")
+    assert number("link") == 3
+    assert segment("run", "link", "-c", "set n 0 9").returncode == 0
+    assert number("a.seg") == 9 and os.path.islink("link") and not os.path.exists("a.seg-log")
+    assert segment("run", "link", "--commit", "-c", "set n 0 8").returncode == 0
+    assert number("link") == 8 and os.path.exists("a.seg-log")

@@ -1,10 +1,12 @@
 //! What stands beside the file of a segment under the name of its log.
 
 use crate::locks::{Identity, open_to_write, remove_named, sync_file};
+use crate::paths::{folder_of, real_path};
+use file_rights::{Ownership, log_counts};
 use segment_log::{HEAD_LEN, LogKind, log_kind};
-use std::fs::{self, File};
+use std::fs::{self, File, Metadata};
 use std::io::{self, ErrorKind};
-use std::os::unix::fs::FileExt;
+use std::os::unix::fs::{FileExt, MetadataExt};
 use std::rt::Files;
 
 /// No path of the system is longer.
@@ -21,7 +23,7 @@ const TRIES: u32 = 8;
 pub(crate) enum FoundLog {
     /// Nothing.
     Nothing,
-    /// No log of this library, so it is somebody else's.
+    /// No log of this library, or a log of somebody who may not write the file. It is somebody else's.
     Foreign,
     /// A log without a record.
     Empty(File),
@@ -37,6 +39,39 @@ fn names_nothing(kind: ErrorKind) -> bool {
     )
 }
 
+/// Returns whose a file is, and its mode.
+fn ownership_of(found: &Metadata) -> Ownership {
+    Ownership {
+        owner: found.uid(),
+        group: found.gid(),
+        mode: found.mode(),
+    }
+}
+
+/// Returns the user as whom the process works, or a number that no user has if the system does not tell.
+fn caller<R: Files<File = File>>(files: &R) -> u32 {
+    match fs::metadata(files, "/proc/self") {
+        Ok(found) => found.uid(),
+        Err(_) => u32::MAX,
+    }
+}
+
+/// Returns true if a log beside a file counts. Otherwise it may be the work of somebody who may not write the file.
+fn counts<R: Files<File = File>>(files: &R, file: &str, log: &Metadata) -> io::Result<bool> {
+    let of_file = match fs::symlink_metadata(files, file) {
+        Ok(found) => found,
+        Err(error) if names_nothing(error.kind()) => return Ok(true),
+        Err(error) => return Err(error),
+    };
+    let of_folder = fs::metadata(files, folder_of(file))?;
+    Ok(log_counts(
+        ownership_of(&of_file),
+        ownership_of(log),
+        ownership_of(&of_folder),
+        caller(files),
+    ))
+}
+
 /// Returns what a file of a length is that has the name of a log.
 fn found_in(file: File, len: u64) -> io::Result<FoundLog> {
     let mut buffer = [0; HEAD_LEN];
@@ -49,37 +84,41 @@ fn found_in(file: File, len: u64) -> io::Result<FoundLog> {
     })
 }
 
-/// Returns what has the name of a log, and follows no link. Returns `None` if the name led to two files meanwhile, or
-/// the file became shorter.
-fn look_once<R: Files<File = File>>(files: &R, log: &str) -> io::Result<Option<FoundLog>> {
+/// Returns what has the name of the log of a file, and follows no link. Returns `None` if the name led to two files
+/// meanwhile, or the file became shorter.
+fn look_once<R: Files<File = File>>(
+    files: &R,
+    file: &str,
+    log: &str,
+) -> io::Result<Option<FoundLog>> {
     let named = match fs::symlink_metadata(files, log) {
         Ok(found) => found,
         Err(error) if names_nothing(error.kind()) => return Ok(Some(FoundLog::Nothing)),
         Err(error) => return Err(error),
     };
-    if !named.is_file() {
+    if !named.is_file() || !counts(files, file, &named)? {
         return Ok(Some(FoundLog::Foreign));
     }
-    let file = match fs::open(files, log) {
-        Ok(file) => file,
+    let found = match fs::open(files, log) {
+        Ok(found) => found,
         Err(error) if names_nothing(error.kind()) => return Ok(None),
         Err(error) => return Err(error),
     };
-    let opened = file.metadata()?;
+    let opened = found.metadata()?;
     if !opened.is_file() || Identity::new(&opened) != Identity::new(&named) {
         return Ok(None);
     }
-    match found_in(file, opened.len()) {
+    match found_in(found, opened.len()) {
         Ok(found) => Ok(Some(found)),
         Err(error) if error.kind() == ErrorKind::UnexpectedEof => Ok(None),
         Err(error) => Err(error),
     }
 }
 
-/// Returns what has the name of a log. Asks for no memory.
-fn look<R: Files<File = File>>(files: &R, log: &str) -> io::Result<FoundLog> {
+/// Returns what has the name of the log of a file. Asks for no memory.
+fn look<R: Files<File = File>>(files: &R, file: &str, log: &str) -> io::Result<FoundLog> {
     for _ in 0..TRIES {
-        if let Some(found) = look_once(files, log)? {
+        if let Some(found) = look_once(files, file, log)? {
             return Ok(found);
         }
     }
@@ -98,7 +137,7 @@ pub(crate) fn log_beside<R: Files<File = File>>(files: &R, file: &str) -> io::Re
     let Ok(log) = str::from_utf8(&buffer[..len + SUFFIX.len()]) else {
         return Err(io::Error::from(ErrorKind::InvalidInput));
     };
-    look(files, log)
+    look(files, file, log)
 }
 
 /// Returns what has the name of the log of a file: beside the file itself, if its path is a link. Only for a link it
@@ -117,9 +156,9 @@ pub(crate) fn find_log<R: Files<File = File> + AllocGlobal>(
         Err(error) if names_nothing(error.kind()) => return Ok(FoundLog::Nothing),
         Err(error) => return Err(error),
     }
-    match fs::canonicalize(rt, path) {
+    match real_path(rt, path) {
         Ok(real) => log_beside(rt, real.as_str()),
-        Err(error) if names_nothing(error.kind()) => Ok(FoundLog::Nothing),
+        Err(error) if error.kind() == ErrorKind::NotFound => Ok(FoundLog::Nothing),
         Err(error) => Err(error),
     }
 }

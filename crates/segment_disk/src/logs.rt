@@ -5,16 +5,14 @@ ghost use Rattle.segment_disk.specs.Logs.{Recovers, RefusesLog};
 
 use crate::file_problems::problem_of;
 use crate::found_log::{FoundLog, find_log};
-use crate::locks::leads_to;
+use crate::locks::{goes_on_with, leads_to};
 use crate::presence::FileProblem;
 use segment_log::{
-    CommittedImage, HEAD_LEN, RecoverError, RecoveredImage, recover, repaired_is_ready, shut_gate,
+    CommittedImage, RecoverError, RecoveredImage, recover, repaired_is_ready, shut_gate,
 };
 use std::alloc::{AllocError, Global};
 use std::fs::{self, File};
-use std::io::{self, Read};
-use std::os::unix::fs::FileExt;
-use std::path::PathBuf;
+use std::io::{self, Read, Seek, SeekFrom};
 use std::rt::Files;
 
 /// How often a file and its log are read that a writer changes meanwhile.
@@ -31,16 +29,6 @@ pub(crate) fn trouble_of(error: io::Error) -> LogTrouble {
     problem_of(error.kind())
 }
 
-/// Returns the path of a file, which leads through no link, and that of the log beside it.
-pub(crate) fn log_paths<R: Files + AllocGlobal>(
-    rt: &R,
-    path: &str,
-) -> io::Result<(PathBuf, String)> {
-    let real = fs::canonicalize(rt, path)?;
-    let log = format!(in rt.alloc(); "{}-log", real.as_str())?;
-    Ok((real, log))
-}
-
 /// Returns true if a file has no log with a record beside it, as far as the system tells.
 pub(crate) fn has_no_record<R: Files<File = File> + AllocGlobal>(rt: &R, path: &str) -> bool {
     matches!(
@@ -49,30 +37,25 @@ pub(crate) fn has_no_record<R: Files<File = File> + AllocGlobal>(rt: &R, path: &
     )
 }
 
-/// Reads the head of a log, or the whole log if it is shorter.
-fn read_head<'a>(log: &File, head: &'a mut [u8; HEAD_LEN]) -> io::Result<&'a [u8]> {
-    let len = log.read_at(head, 0)?;
-    Ok(&head[..len])
-}
-
-/// Returns the bytes of a log beside a file that another process may write, or no bytes if it has no record. Returns
-/// `None` if the other process emptied the log during the read: then these may be bytes of two logs.
+/// Returns the log beside a file and its bytes, or no log and no bytes if it has no record.
 fn read_shared_log<R: Files<File = File> + AllocGlobal>(
     rt: &R,
     path: &str,
-) -> Result<Option<Vec<u8>>, LogTrouble> {
+) -> Result<(Option<File>, Vec<u8>), LogTrouble> {
     let FoundLog::Records(mut file) = find_log(rt, path).map_err(trouble_of)? else {
-        return Ok(Some(Vec::new(rt.alloc())));
+        return Ok((None, Vec::new(rt.alloc())));
     };
-    let (mut before, mut after) = ([0; HEAD_LEN], [0; HEAD_LEN]);
-    let head = read_head(&file, &mut before).map_err(trouble_of)?;
-    if !head.starts_with(&[1]) {
-        return Ok(Some(Vec::new(rt.alloc())));
-    }
     let bytes = read_file(rt.alloc(), &mut file)?;
-    let is_same = bytes.starts_with(head)
-        && read_head(&file, &mut after).map_err(trouble_of)? == head;
-    Ok(is_same.then_some(bytes))
+    Ok((Some(file), bytes))
+}
+
+/// Returns true if a log that was read still has its records. A process of an older version may empty a log and begin
+/// it anew: then the bytes of one reading may be of two logs.
+fn has_still(log: Option<File>, records: &[u8]) -> bool {
+    let Some(mut log) = log else {
+        return true;
+    };
+    log.seek(SeekFrom::Start(0)).is_ok() && goes_on_with(&mut log, records).unwrap_or(false)
 }
 
 /// Returns what the bytes of a file stand for with those of its log. The log of another file is refused.
@@ -134,11 +117,12 @@ fn read_once<R: Files<File = File> + AllocGlobal>(
     path: &str,
     file: &mut File,
 ) -> Result<Option<RecoveredImage>, LogTrouble> {
-    let Some(bytes) = read_shared_log(rt, path)? else {
-        return Ok(None);
-    };
+    let (log, mut bytes) = read_shared_log(rt, path)?;
     let made = recovered(read_file(rt.alloc(), file)?, &bytes);
-    if leads_to(rt, path, file) {
+    if let Ok(made) = &made {
+        bytes.truncate(made.end);
+    }
+    if has_still(log, &bytes) && leads_to(rt, path, file) {
         Ok(Some(made?))
     } else {
         Ok(None)

@@ -1,12 +1,14 @@
 //! The end of a log: its commits become the file, before the file is written otherwise.
 ghost use Rattle.std.specs.Prelude.{⊤};
 
-use crate::found_log::{FoundLog, end_empty, find_log};
-use crate::locks::{FileLock, Identity, open_to_write, remove_named, sync_file};
-use crate::logs::{LogTrouble, committed, log_paths, read_file, trouble_of};
+use crate::found_log::{FoundLog, end_empty, find_log, log_beside};
+use crate::locks::{FileLock, Identity, is_named, remove_named, sync_file};
+use crate::logs::{LogTrouble, committed, read_file, trouble_of};
+use crate::paths::{log_path, log_paths};
 use crate::presence::FileProblem;
 use crate::replacement_file::ReplacementFile;
-use crate::spare_file::is_folder_synced;
+use crate::rights::take_log_rights;
+use crate::spare_file::{SpareFile, open_folder};
 use crate::sparse::{SparseFile, longest_file};
 use segment_log::{LogDisk, LogFault, checkpoint};
 use std::fs::{self, File};
@@ -27,14 +29,14 @@ fn write_through(file: SparseFile, bytes: &[u8]) -> io::Result<()> {
     }
 }
 
-/// Puts a new file of these bytes in the place of a file, with its rights. Returns what there is to hold of the new
-/// one, and whether it has its name for good.
+/// Puts a new file of these bytes in the place of a file, whose path leads through no link, with its rights. Returns
+/// what there is to hold of the new one, and whether it has its name for good.
 pub(crate) fn put_in_place<R: Files<File = File> + AllocGlobal + Clock>(
     rt: &R,
     path: &str,
     held: Option<Identity>,
     bytes: &[u8],
-) -> io::Result<(FileLock, bool)> {
+) -> Result<(FileLock, bool), LogTrouble> {
     let (file, beside) = ReplacementFile::make(rt, path, held)?;
     let written = write_through(SparseFile::new(file, longest_file(rt)), bytes);
     let placed = match written {
@@ -42,10 +44,13 @@ pub(crate) fn put_in_place<R: Files<File = File> + AllocGlobal + Clock>(
         Err(error) => Err(error),
     };
     match placed {
-        Ok(()) => Ok((beside.into_lock(), is_folder_synced(rt, path) == Some(true))),
+        Ok(()) => {
+            let lasts = beside.sync_folder();
+            Ok((beside.into_lock(), lasts))
+        }
         Err(error) => {
             beside.discard(rt);
-            Err(error)
+            Err(trouble_of(error))
         }
     }
 }
@@ -86,26 +91,62 @@ impl<'a, R: Files<File = File> + AllocGlobal + Clock> LogDisk for LoggedFile<'a,
                 *hold = lock;
                 if lasts { Ok(()) } else { Err(LogFault) }
             }
-            Err(error) => {
-                self.trouble = trouble_of(error);
+            Err(trouble) => {
+                self.trouble = trouble;
                 Err(LogFault)
             }
         }
     }
 }
 
-/// Puts a copy of the records in the place of the log, and opens it: a sync of the log may have failed, so that its
-/// bytes are read and are not on the disk.
-pub(crate) fn renew_log<R: Files<File = File> + AllocGlobal + Clock>(
+/// Writes a log through, which has the rights of its file.
+fn write_log(log: &File, file: &File, bytes: &[u8]) -> io::Result<()> {
+    take_log_rights(log, &file.metadata()?)?;
+    log.write_all_at(bytes, 0)?;
+    log.sync_all()
+}
+
+/// Gives a new log its name: that of the log that is there, or one that nothing has.
+fn name_log<R: Files<File = File> + Clock>(
     rt: &R,
-    log: &str,
-    bytes: &[u8],
-) -> io::Result<File> {
-    let (_, lasts) = put_in_place(rt, log, None, bytes)?;
-    if !lasts {
-        return Err(io::Error::from(ErrorKind::Other));
+    spare: &SpareFile,
+    path: &str,
+    old: Option<&File>,
+) -> io::Result<()> {
+    match old {
+        None => spare.give_name(rt, path),
+        Some(old) if is_named(rt, path, old) => spare.replace(rt, path),
+        Some(_) => Err(io::Error::from(ErrorKind::AlreadyExists)),
     }
-    open_to_write(rt, log)
+}
+
+/// Puts a new log of these bytes beside a file, in the place of the old one, if there is one: a sync of that may have
+/// failed, so that its bytes are read and are not on the disk. The new log gets its name when it is on the disk.
+pub(crate) fn put_log<R: Files<File = File> + AllocGlobal + Clock>(
+    rt: &R,
+    path: &str,
+    file: &File,
+    old: Option<&File>,
+    bytes: &[u8],
+) -> Result<File, LogTrouble> {
+    if bytes.len() as u64 > longest_file(rt) {
+        return Err(Some(FileProblem::Unwritten));
+    }
+    let folder = open_folder(rt, path)?;
+    let (log, spare, _) = SpareFile::make(rt, path, 0o600).map_err(trouble_of)?;
+    let named = match write_log(&log, file, bytes) {
+        Ok(()) => name_log(rt, &spare, path, old),
+        Err(error) => Err(error),
+    };
+    if let Err(error) = named {
+        spare.discard(rt);
+        return Err(trouble_of(error));
+    }
+    if sync_file(&folder) {
+        Ok(log)
+    } else {
+        Err(Some(FileProblem::Unwritten))
+    }
 }
 
 /// Makes a file the image that it stands for with the records of its log, which is open, and removes the log.
@@ -129,15 +170,13 @@ fn settle_records<R: Files<File = File> + AllocGlobal + Clock>(
     let mut files = LoggedFile {
         rt,
         path,
-        log: renew_log(rt, log, &gated).map_err(trouble_of)?,
+        log: put_log(rt, log, &file, Some(&open), &gated)?,
         trouble: None,
     };
     if checkpoint(rt.alloc(), &mut files, lock, &kept.image).is_err() {
         return Err(files.trouble);
     }
-    remove_named(rt, log, &files.log).map_err(trouble_of)?;
-    is_folder_synced(rt, path);
-    Ok(())
+    remove_named(rt, log, &files.log).map_err(trouble_of)
 }
 
 /// Removes the log beside a file that is locked, if there is one. Its commits are put into the file before, which is
@@ -183,13 +222,53 @@ pub(crate) fn keeps_records<R: Files<File = File> + AllocGlobal>(
     }
 }
 
-/// Removes a log with records that was left beside the name of a file that was just made: it stands for nothing. If it
-/// can't be removed, the file is refused from then on.
-pub(crate) fn drop_log<R: Files<File = File> + AllocGlobal>(rt: &R, path: &str) {
-    let Ok(FoundLog::Records(file)) = find_log(rt, path) else {
-        return;
-    };
-    if let Ok((_, log)) = log_paths(rt, path) {
-        let _ = remove_named(rt, log.as_str(), &file);
+/// Returns an error if a log with records was left under the name of the log of a file that is made: that is the log of
+/// another file, which is gone. A log without a record is removed.
+///
+/// # Errors
+///
+/// Such a log is there, or one that can't be removed.
+pub(crate) fn end_left<R: Files<File = File> + AllocGlobal>(
+    rt: &R,
+    path: &str,
+) -> Result<(), LogTrouble> {
+    match log_beside(rt, path).map_err(trouble_of)? {
+        FoundLog::Nothing | FoundLog::Foreign => Ok(()),
+        FoundLog::Records(_) => Err(Some(FileProblem::LogLeft)),
+        FoundLog::Empty(file) => {
+            let log = log_path(rt.alloc(), path).map_err(trouble_of)?;
+            end_empty(rt, log.as_str(), &file).map_err(trouble_of)
+        }
     }
+}
+
+/// Returns true if a file that is locked has its name, no log with records is beside it, and its name is on the disk.
+fn is_named_alone<R: Files<File = File> + AllocGlobal>(
+    rt: &R,
+    path: &str,
+    file: &File,
+    folder: &File,
+) -> Result<bool, LogTrouble> {
+    if !is_named(rt, path, file) {
+        return Err(Some(FileProblem::Exists));
+    }
+    end_left(rt, path)?;
+    Ok(sync_file(folder))
+}
+
+/// Syncs the name of a file that was made and is locked. If that can't be done, or a log with records is beside the
+/// file, the file is removed.
+pub(crate) fn named_for_good<R: Files<File = File> + AllocGlobal>(
+    rt: &R,
+    path: &str,
+    file: &File,
+    folder: &File,
+) -> Result<(), LogTrouble> {
+    let trouble = match is_named_alone(rt, path, file, folder) {
+        Ok(true) => return Ok(()),
+        Ok(false) => None,
+        Err(trouble) => trouble,
+    };
+    let _ = remove_named(rt, path, file);
+    Err(trouble)
 }

@@ -11,7 +11,8 @@ use Rattle.segment_commands.specs.Paths.{path_text}
 use Rattle.segment_disk.specs.declared.presence.FileProblem.{FileProblem}
 use Rattle.segment_disk.specs.declared.presence.FileProblem.TheVariants.{Missing, NoParentFolder, Unnamed, Folder}
 use Rattle.segment_disk.specs.declared.presence.FileProblem.TheVariants.{Denied, Exists, Owner, Writer, Log, ForeignLog}
-use Rattle.segment_disk.specs.declared.presence.FileProblem.TheVariants.{Unwritten}
+use Rattle.segment_disk.specs.declared.presence.FileProblem.TheVariants.{LogTaken, EmptyLog, LogLeft, SeveralNames}
+use Rattle.segment_disk.specs.declared.presence.FileProblem.TheVariants.{NotLocked, UnsyncedName, Unwritten}
 
 -- ---- the line of a fault
 
@@ -65,6 +66,12 @@ trouble_message Owner = codes ": had another owner, who could not be kept\n"
 trouble_message Writer = codes ": a writer holds it\n"
 trouble_message Log = codes ": was read with the commits of its log\n"
 trouble_message ForeignLog = codes ": its log is of another file\n"
+trouble_message LogTaken = codes ": the file of this name with -log behind it is not its log; remove or rename it\n"
+trouble_message EmptyLog = codes ": the file of this name with -log behind it is empty, and no log; it may be removed\n"
+trouble_message LogLeft = codes ": the file of this name with -log behind it has commits of a file that is gone; remove or rename it\n"
+trouble_message SeveralNames = codes ": has several names, and a log is found by one alone; copy it, or remove the others\n"
+trouble_message NotLocked = codes ": the system can not lock it\n"
+trouble_message UnsyncedName = codes ": its folder can not be read, and so its name can not be synced\n"
 trouble_message Unwritten = codes ": could not be written whole\n"
 
 abbrev pub trouble_text : List ℕ → FileProblem → List ℕ

@@ -142,6 +142,17 @@ fn trouble_message(trouble: FileProblem) -> &'static [u8]
         FileProblem::Writer => b": a writer holds it\n",
         FileProblem::Log => b": was read with the commits of its log\n",
         FileProblem::ForeignLog => b": its log is of another file\n",
+        FileProblem::LogTaken =>
+            b": the file of this name with -log behind it is not its log; remove or rename it\n",
+        FileProblem::EmptyLog =>
+            b": the file of this name with -log behind it is empty, and no log; it may be removed\n",
+        FileProblem::LogLeft =>
+            b": the file of this name with -log behind it has commits of a file that is gone; remove or rename it\n",
+        FileProblem::SeveralNames =>
+            b": has several names, and a log is found by one alone; copy it, or remove the others\n",
+        FileProblem::NotLocked => b": the system can not lock it\n",
+        FileProblem::UnsyncedName =>
+            b": its folder can not be read, and so its name can not be synced\n",
         FileProblem::Unwritten => b": could not be written whole\n",
     }
 }

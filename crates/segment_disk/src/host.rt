@@ -6,15 +6,16 @@ use crate::disk::{Disk, OpenedFile};
 use crate::file_problems::{creation_problem, names_none, problem_of};
 use crate::host_reader::HostReader;
 use crate::locks::{
-    FileLock, Identity, PAUSE, are_different, has_bytes, is_written, leads_to, lock, lock_made,
-    open_to_write, sync_file,
+    FileLock, Identity, NotLocked, PAUSE, are_different, is_written, leads_to, lock, lock_made,
+    open_equal, open_to_write, sync_file,
 };
-use crate::logs::{has_log, log_paths, read_recovered};
+use crate::logs::{LogTrouble, has_no_record, read_recovered, trouble_of};
 use crate::open_log::OpenLog;
+use crate::paths::{copy_path, real_path};
 use crate::presence::{AlreadyLocked, Comparison, FileProblem, NotOpened, Presence, SaveMode};
 use crate::replacement_file::ReplacementFile;
-use crate::settling::{drop_log, put_in_place, settle};
-use crate::spare_file::{SpareFile, is_folder_synced, sync_folder};
+use crate::settling::{end_left, keeps_records, named_for_good, put_in_place, settle};
+use crate::spare_file::{SpareFile, open_folder, sync_folder};
 use crate::sparse::{SparseFile, longest_file};
 use crate::std_output::StdOutput;
 use raw_region::DeviceFault;
@@ -54,6 +55,8 @@ pub struct HostDisk<'a, R: Files> {
 struct UnnamedFile {
     path: String,
     spare: SpareFile,
+    /// The folder of the path.
+    folder: File,
 }
 
 /// The right to write a file, which the system takes back if this is dropped.
@@ -63,6 +66,8 @@ pub struct HostLock {
     lock: FileLock,
     /// The file that was made beside it last, while its fate is open.
     beside: Option<ReplacementFile>,
+    /// Why the file can't be written at all, if the system did not lock it.
+    bar: Option<FileProblem>,
     /// Why the file can't be written other than by its log, if that is still there.
     log: Option<FileProblem>,
     /// The log that was begun for the file. The file changes by calls of the log alone meanwhile.
@@ -74,8 +79,17 @@ impl HostLock {
         HostLock {
             lock,
             beside: None,
+            bar: None,
             log: None,
             begun: None,
+        }
+    }
+
+    /// Makes the right to write a file that the system did not lock, which is refused from then on.
+    fn barred(trouble: Option<FileProblem>) -> HostLock {
+        HostLock {
+            bar: Some(trouble.unwrap_or(FileProblem::NotLocked)),
+            ..HostLock::new(FileLock::Unlocked)
         }
     }
 }
@@ -129,11 +143,13 @@ impl<'a, R: Files> HostDisk<'a, R> {
 
 impl<'a, R: Files<File = File> + AllocGlobal + Clock> HostDisk<'a, R> {
     /// Empties a file, or makes one beside it.
-    fn file_for(&self, path: &str, how: SaveMode, hold: &mut HostLock) -> io::Result<File> {
+    fn file_for(&self, path: &str, how: SaveMode, hold: &mut HostLock) -> Result<File, LogTrouble> {
         match how {
-            SaveMode::InPlace => self.emptied(path, hold),
+            SaveMode::InPlace => self.emptied(path, hold).map_err(trouble_of),
             SaveMode::Replacing => {
-                let (file, beside) = ReplacementFile::make(self.files, path, hold.lock.identity())?;
+                let old = real_path(self.files, path).map_err(trouble_of)?;
+                let held = hold.lock.identity();
+                let (file, beside) = ReplacementFile::make(self.files, old.as_str(), held)?;
                 hold.beside = Some(beside);
                 Ok(file)
             }
@@ -141,55 +157,74 @@ impl<'a, R: Files<File = File> + AllocGlobal + Clock> HostDisk<'a, R> {
     }
 
     /// Makes a file that is not there, and locks it.
-    fn made(&mut self, path: &str, hold: &mut HostLock) -> io::Result<File> {
-        if self.naming == SaveMode::Replacing {
-            return self.made_unnamed(path, hold);
+    fn made(&mut self, path: &str, hold: &mut HostLock) -> Result<File, LogTrouble> {
+        if names_none(path) {
+            return Err(Some(FileProblem::Unnamed));
         }
-        let file = File::create_new(self.files, path)?;
-        hold.lock = lock_made(self.files, &file)?;
-        drop_log(self.files, path);
+        let folder = open_folder(self.files, path)?;
+        if self.naming == SaveMode::Replacing {
+            return self.made_unnamed(path, hold, folder);
+        }
+        end_left(self.files, path)?;
+        let file = match File::create_new(self.files, path) {
+            Ok(file) => file,
+            Err(error) => return Err(creation_problem(error.kind(), path)),
+        };
+        hold.lock = lock_made(self.files, &file).map_err(trouble_of)?;
+        named_for_good(self.files, path, &file, &folder)?;
         Ok(file)
     }
 
     /// Makes a file that has a hidden name, and locks it. It gets the name of a path later, where nothing is now.
-    fn made_unnamed(&mut self, path: &str, hold: &mut HostLock) -> io::Result<File> {
-        if names_none(path) {
-            return Err(io::Error::from(ErrorKind::NotFound));
-        }
+    fn made_unnamed(
+        &mut self,
+        path: &str,
+        hold: &mut HostLock,
+        folder: File,
+    ) -> Result<File, LogTrouble> {
         if fs::symlink_metadata(self.files, path).is_ok() {
-            return Err(io::Error::from(ErrorKind::AlreadyExists));
+            return Err(Some(FileProblem::Exists));
         }
-        let kept = format!(in self.files.alloc(); "{path}")?;
-        let (file, spare, lock) = SpareFile::make(self.files, path, 0o666)?;
+        end_left(self.files, path)?;
+        let kept = copy_path(self.files.alloc(), path).map_err(trouble_of)?;
+        let made = SpareFile::make(self.files, path, 0o666);
+        let (file, spare, lock) = match made {
+            Ok(made) => made,
+            Err(error) => return Err(creation_problem(error.kind(), path)),
+        };
         hold.lock = lock;
-        self.unnamed = Some(UnnamedFile { path: kept, spare });
+        self.unnamed = Some(UnnamedFile {
+            path: kept,
+            spare,
+            folder,
+        });
         Ok(file)
     }
 
     /// Gives a file its name that is whole and has none, and removes it otherwise.
     fn name(&mut self, unnamed: UnnamedFile, is_whole: bool) -> Result<(), DeviceFault> {
-        let UnnamedFile { path, spare } = unnamed;
-        if is_whole {
-            match spare.give_name(self.files, path.as_str()) {
-                Ok(()) => {
-                    drop_log(self.files, path.as_str());
-                    if sync_folder(self.files, path.as_str()) {
-                        return Ok(());
-                    }
-                    return Err(self.not_written(None));
-                }
-                Err(error) => {
-                    spare.discard(self.files);
-                    return Err(self.not_written(creation_problem(error.kind(), path.as_str())));
-                }
-            }
+        let UnnamedFile {
+            path,
+            spare,
+            folder,
+        } = unnamed;
+        if !is_whole {
+            spare.discard(self.files);
+            return Err(self.not_written(None));
         }
-        spare.discard(self.files);
-        Err(self.not_written(None))
+        if let Err(error) = spare.give_name(self.files, path.as_str()) {
+            spare.discard(self.files);
+            return Err(self.not_written(creation_problem(error.kind(), path.as_str())));
+        }
+        match named_for_good(self.files, path.as_str(), spare.file(), &folder) {
+            Ok(()) => Ok(()),
+            Err(trouble) => Err(self.not_written(trouble)),
+        }
     }
 
     /// Opens a file for writing, and empties it. If a file is locked, no other is emptied that has taken its name, and
-    /// none if nothing was there: they are compared when the file is open.
+    /// none if nothing was there: they are compared when the file is open. Its name is synced first: who gave it that
+    /// name may have been killed before.
     fn emptied(&self, path: &str, hold: &HostLock) -> io::Result<File> {
         let Some(held) = hold.lock.identity() else {
             let mut options = OpenOptions::new();
@@ -200,8 +235,28 @@ impl<'a, R: Files<File = File> + AllocGlobal + Clock> HostDisk<'a, R> {
         if Identity::of(&file) != Some(held) {
             return Err(io::Error::from(ErrorKind::AlreadyExists));
         }
+        if !self.sync_name(path)? {
+            return Err(io::Error::from(ErrorKind::Other));
+        }
         file.set_len(0)?;
         Ok(file)
+    }
+
+    /// Syncs the name of a file, which may be a link to the file, and returns true unless that fails.
+    fn sync_name(&self, path: &str) -> io::Result<bool> {
+        if !fs::symlink_metadata(self.files, path)?.is_symlink() {
+            return Ok(sync_folder(self.files, path));
+        }
+        let real = real_path(self.files, path)?;
+        Ok(sync_folder(self.files, real.as_str()))
+    }
+
+    /// Returns true if the file that is held has these bytes, can be written, and is on the disk with its name.
+    fn lasts_equal(&self, path: &str, hold: &HostLock, bytes: &[u8]) -> io::Result<bool> {
+        match open_equal(self.files, path, hold.lock.identity(), bytes)? {
+            Some(file) => Ok(sync_file(&file) && self.sync_name(path)?),
+            None => Ok(false),
+        }
     }
 
     /// Notes why a file was not written, as far as the system told.
@@ -256,13 +311,14 @@ impl<'a, R: Files<File = File> + AllocGlobal + Clock> HostDisk<'a, R> {
     /// Puts the commits of the log beside a file into the file that is held, and removes the log. If that can't be
     /// done, or the log is to stay, the file can't be written other than by its log.
     fn settle(&self, path: &str, hold: &mut HostLock) {
-        if !self.has_logs || matches!(hold.lock, FileLock::Absent) {
+        if !self.has_logs || hold.bar.is_some() || matches!(hold.lock, FileLock::Absent) {
             return;
         }
         if self.keeps_logs {
-            hold.log = match has_log(self.files, path) {
+            hold.log = match keeps_records(self.files, path) {
                 Ok(false) => None,
-                _ => Some(FileProblem::Log),
+                Ok(true) => Some(FileProblem::Log),
+                Err(trouble) => Some(trouble.unwrap_or(FileProblem::Unwritten)),
             };
             return;
         }
@@ -271,31 +327,18 @@ impl<'a, R: Files<File = File> + AllocGlobal + Clock> HostDisk<'a, R> {
         }
     }
 
-    /// Returns true if the locked file can be written, and if the file and its log have this image.
-    fn stands_for(&self, path: &str, hold: &HostLock, image: &[u8]) -> io::Result<bool> {
-        let file = fs::open(self.files, path)?;
-        if are_different(hold.lock.identity(), Identity::of(&file)) {
-            return Ok(false);
-        }
-        open_to_write(self.files, path)?;
-        match read_recovered(self.files, path, file) {
-            Ok(made) => Ok(made.image.as_slice() == image),
-            Err(_) => Ok(false),
-        }
-    }
-
-    /// Syncs the locked file, its log and their folder. Returns false if a sync fails, or another file has
-    /// taken the name.
+    /// Syncs the locked file, which has no log, and its folder. Returns false if a sync fails, or another file has the
+    /// name.
     fn sync_found(&self, path: &str, hold: &HostLock) -> io::Result<bool> {
         let file = fs::open(self.files, path)?;
-        if are_different(hold.lock.identity(), Identity::of(&file)) {
+        if hold.log.is_some() || are_different(hold.lock.identity(), Identity::of(&file)) {
             return Ok(false);
         }
-        let (real, log) = log_paths(self.files, path)?;
-        if hold.log.is_some() && !sync_file(&fs::open(self.files, log.as_str())?) {
+        let real = real_path(self.files, path)?;
+        let Ok(folder) = open_folder(self.files, real.as_str()) else {
             return Ok(false);
-        }
-        Ok(sync_file(&file) && is_folder_synced(self.files, real.as_str()) == Some(true))
+        };
+        Ok(sync_file(&file) && sync_file(&folder))
     }
 
     /// Returns a reader of a file that was opened, or of what it stands for with its log, and how many bytes it gives.
@@ -310,7 +353,7 @@ impl<'a, R: Files<File = File> + AllocGlobal + Clock> HostDisk<'a, R> {
         let may_have_log = self.has_logs && found.is_file();
         // a checkpoint replaces the file before it empties the log
         let is_alone = !may_have_log
-            || matches!(has_log(self.files, path), Ok(false)) && leads_to(self.files, path, &file);
+            || has_no_record(self.files, path) && leads_to(self.files, path, &file);
         if is_alone {
             let reader = StdSource::new(HostReader::Plain(file));
             let len = found.len();
@@ -370,8 +413,8 @@ impl<'a, R: Files<File = File> + AllocGlobal + Clock> LogDisk for HostDisk<'a, R
                 self.held = hold.lock.identity();
                 if lasts { Ok(()) } else { Err(LogFault) }
             }
-            Err(error) => {
-                self.not_written(problem_of(error.kind()));
+            Err(trouble) => {
+                self.not_written(trouble);
                 Err(LogFault)
             }
         }
@@ -396,15 +439,21 @@ impl<'a, R: Files<File = File> + AllocGlobal + Clock> Disk for HostDisk<'a, R> {
     fn lock(&mut self, path: &str) -> Result<HostLock, AlreadyLocked> {
         let mut found = lock(self.files, path);
         for _ in 0..self.wait.saturating_mul(TRIES) {
-            if found.is_ok() {
+            if !matches!(found, Err(NotLocked::InUse)) {
                 break;
             }
             sleep(self.files, Duration::from_millis(PAUSE));
             found = lock(self.files, path);
         }
-        self.trouble = found.is_err().then_some(FileProblem::Writer);
-        let lock = found?;
-        let mut hold = HostLock::new(lock);
+        let mut hold = match found {
+            Ok(lock) => HostLock::new(lock),
+            Err(NotLocked::Fault(error)) => HostLock::barred(problem_of(error.kind())),
+            Err(NotLocked::InUse) => {
+                self.trouble = Some(FileProblem::Writer);
+                return Err(AlreadyLocked);
+            }
+        };
+        self.trouble = hold.bar;
         self.settle(path, &mut hold);
         self.held = hold.lock.identity();
         Ok(hold)
@@ -434,17 +483,12 @@ impl<'a, R: Files<File = File> + AllocGlobal + Clock> Disk for HostDisk<'a, R> {
             self.trouble = Some(FileProblem::Exists);
             return Comparison::Other;
         }
-        // a file that has a log may stand for another image than its bytes
-        let has_image = match hold.log {
-            None if hold.begun.is_none() => {
-                has_bytes(self.files, path, hold.lock.identity(), image)
-            }
-            Some(_) if self.keeps_logs => self.stands_for(path, hold, image),
-            _ => Ok(false),
-        };
-        match has_image {
-            Ok(true) => Comparison::Equal,
-            _ => Comparison::Different,
+        // a file that has a log may stand for another image than its bytes, and a sync of the log may have failed
+        let may_be_equal = hold.log.is_none() && hold.begun.is_none() && hold.bar.is_none();
+        if may_be_equal && self.lasts_equal(path, hold, image).unwrap_or(false) {
+            Comparison::Equal
+        } else {
+            Comparison::Different
         }
     }
 
@@ -452,7 +496,7 @@ impl<'a, R: Files<File = File> + AllocGlobal + Clock> Disk for HostDisk<'a, R> {
         let mut hold = HostLock::new(FileLock::Absent);
         match self.made(path, &mut hold) {
             Ok(file) => Ok((self.writer_of(file), hold)),
-            Err(error) => Err(self.not_written(creation_problem(error.kind(), path))),
+            Err(trouble) => Err(self.not_written(trouble)),
         }
     }
 
@@ -462,12 +506,12 @@ impl<'a, R: Files<File = File> + AllocGlobal + Clock> Disk for HostDisk<'a, R> {
         how: SaveMode,
         hold: &mut HostLock,
     ) -> Result<StdOutput<SparseFile>, DeviceFault> {
-        if hold.log.is_some() || hold.begun.is_some() {
-            return Err(self.not_written(hold.log));
+        if hold.bar.is_some() || hold.log.is_some() || hold.begun.is_some() {
+            return Err(self.not_written(hold.bar.or(hold.log)));
         }
         match self.file_for(path, how, hold) {
             Ok(file) => Ok(self.writer_of(file)),
-            Err(error) => Err(self.not_written(problem_of(error.kind()))),
+            Err(trouble) => Err(self.not_written(trouble)),
         }
     }
 
@@ -490,7 +534,7 @@ impl<'a, R: Files<File = File> + AllocGlobal + Clock> Disk for HostDisk<'a, R> {
             hold.beside = Some(beside);
             return Err(self.not_written(is_taken.then_some(FileProblem::Exists)));
         }
-        let lasts = beside.sync_folder(self.files);
+        let lasts = beside.sync_folder();
         if !beside.has_owner() {
             self.trouble = Some(FileProblem::Owner);
         }
@@ -515,8 +559,8 @@ impl<'a, R: Files<File = File> + AllocGlobal + Clock> Disk for HostDisk<'a, R> {
         hold: &mut HostLock,
     ) -> Result<CommittedImage, DeviceFault> {
         hold.begun = None;
-        if !self.has_logs {
-            return Err(self.not_written(None));
+        if !self.has_logs || hold.bar.is_some() {
+            return Err(self.not_written(hold.bar));
         }
         match OpenLog::begin(self.files, path, &hold.lock) {
             Ok((log, kept)) => {

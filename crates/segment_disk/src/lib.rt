@@ -4,14 +4,17 @@
 
 mod disk;
 mod file_problems;
+mod found_log;
 mod host;
 mod host_reader;
 mod image_reader;
 mod locks;
 mod logs;
 mod open_log;
+mod paths;
 mod presence;
 mod replacement_file;
+mod rights;
 mod settling;
 mod spare_file;
 mod sparse;

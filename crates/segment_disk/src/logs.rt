@@ -4,27 +4,16 @@ ghost use Rattle.segment_log.specs.{CommittedImages.IsCommitted, Crashes.with_lo
 ghost use Rattle.segment_disk.specs.Logs.{Recovers, RefusesLog};
 
 use crate::file_problems::problem_of;
-use crate::locks::leads_to;
+use crate::found_log::{FoundLog, find_log};
+use crate::locks::{goes_on_with, leads_to};
 use crate::presence::FileProblem;
 use segment_log::{
-    CommittedImage, GATE_LEN, RecoverError, RecoveredImage, recover, repaired_is_ready, shut_gate,
+    CommittedImage, RecoverError, RecoveredImage, recover, repaired_is_ready, shut_gate,
 };
 use std::alloc::{AllocError, Global};
 use std::fs::{self, File};
-use std::io::{self, ErrorKind, Read};
-use std::os::unix::fs::FileExt;
-use std::path::PathBuf;
+use std::io::{self, Read, Seek, SeekFrom};
 use std::rt::Files;
-
-/// No path of the system is longer.
-const MAX_PATH_LEN: usize = 4096;
-
-/// How the name of a log ends, behind that of its file.
-const SUFFIX: [u8; 4] = *b"-log";
-
-/// The bytes at the front of a log that no log before it in the same file has: the first gate, the length of the first
-/// payload, and the payload up to the end of its tag.
-const HEAD_LEN: usize = GATE_LEN + 48;
 
 /// How often a file and its log are read that a writer changes meanwhile.
 const TRIES: usize = 64;
@@ -40,126 +29,33 @@ pub(crate) fn trouble_of(error: io::Error) -> LogTrouble {
     problem_of(error.kind())
 }
 
-/// Tells whether a path leads to a file that begins as a log with a record does. Asks for no memory.
-fn is_marked<R: Files<File = File>>(files: &R, log: &str) -> io::Result<bool> {
-    match fs::symlink_metadata(files, log) {
-        Ok(found) if found.is_file() => {}
-        Ok(_) => return Ok(false),
-        Err(error) => match error.kind() {
-            ErrorKind::NotFound | ErrorKind::InvalidFilename => return Ok(false),
-            _ => return Err(error),
-        },
-    }
-    let mut first = [0];
-    let mut file = fs::open(files, log)?;
-    let count = file.read(&mut first)?;
-    Ok(count == 1 && first[0] == 1)
+/// Returns true if a file has no log with a record beside it, as far as the system tells.
+pub(crate) fn has_no_record<R: Files<File = File> + AllocGlobal>(rt: &R, path: &str) -> bool {
+    matches!(
+        find_log(rt, path),
+        Ok(FoundLog::Nothing | FoundLog::Foreign | FoundLog::Empty(_))
+    )
 }
 
-/// Tells whether a log with a record stands beside a file, which is no link. Asks for no memory.
-fn is_beside<R: Files<File = File>>(files: &R, file: &str) -> io::Result<bool> {
-    let mut buffer = [0; MAX_PATH_LEN];
-    let len = file.len();
-    if len > MAX_PATH_LEN - SUFFIX.len() {
-        return Ok(false);
-    }
-    buffer[..len].copy_from_slice(file.as_bytes());
-    buffer[len..len + SUFFIX.len()].copy_from_slice(&SUFFIX);
-    let Ok(log) = str::from_utf8(&buffer[..len + SUFFIX.len()]) else {
-        return Err(io::Error::from(ErrorKind::InvalidInput));
-    };
-    is_marked(files, log)
-}
-
-/// Tells whether a log with a record stands beside the file of a path: beside the file itself, if the path is a link.
-/// Only for a link it asks for memory. A file that can't be looked at has none, and what has the name of a log and no
-/// record is nobody's business.
-///
-/// # Errors
-///
-/// Memory was refused, or the system does not tell.
-pub(crate) fn has_log<R: Files<File = File> + AllocGlobal>(rt: &R, path: &str) -> io::Result<bool> {
-    let Ok(found) = fs::symlink_metadata(rt, path) else {
-        return Ok(false);
-    };
-    if !found.is_symlink() {
-        return is_beside(rt, path);
-    }
-    match fs::canonicalize(rt, path) {
-        Ok(real) => is_beside(rt, real.as_str()),
-        Err(error) if error.kind() == ErrorKind::OutOfMemory => Err(error),
-        Err(_) => Ok(false),
-    }
-}
-
-/// Returns the path of a file, which leads through no link, and that of the log beside it.
-pub(crate) fn log_paths<R: Files + AllocGlobal>(
-    rt: &R,
-    path: &str,
-) -> io::Result<(PathBuf, String)> {
-    let real = fs::canonicalize(rt, path)?;
-    let log = format!(in rt.alloc(); "{}-log", real.as_str())?;
-    Ok((real, log))
-}
-
-/// Returns no log if an error says that none exists.
-fn no_log(error: io::Error) -> Result<Option<File>, LogTrouble> {
-    match error.kind() {
-        ErrorKind::NotFound => Ok(None),
-        _ => Err(trouble_of(error)),
-    }
-}
-
-/// Opens a log. Returns nothing if it does not exist, and `ForeignLog` if a folder, a pipe or a link has its name.
-fn open_log<R: Files<File = File>>(files: &R, log: &str) -> Result<Option<File>, LogTrouble> {
-    match fs::symlink_metadata(files, log) {
-        Ok(found) if found.is_file() => {}
-        Ok(_) => return Err(Some(FileProblem::ForeignLog)),
-        Err(error) => return no_log(error),
-    }
-    // another process may have removed it
-    match fs::open(files, log) {
-        Ok(file) => Ok(Some(file)),
-        Err(error) => no_log(error),
-    }
-}
-
-/// Returns the bytes of a log, or no bytes if it does not exist.
-pub(crate) fn read_log<R: Files<File = File> + AllocGlobal>(
-    rt: &R,
-    log: &str,
-) -> Result<Vec<u8>, LogTrouble> {
-    match open_log(rt, log)? {
-        Some(mut file) => read_file(rt.alloc(), &mut file),
-        None => Ok(Vec::new(rt.alloc())),
-    }
-}
-
-/// Reads the head of a log, or the whole log if it is shorter.
-fn read_head<'a>(log: &File, head: &'a mut [u8; HEAD_LEN]) -> io::Result<&'a [u8]> {
-    let len = log.read_at(head, 0)?;
-    Ok(&head[..len])
-}
-
-/// Returns the bytes of a log that another process may write, or no bytes if it has no record. Returns `None` if the
-/// other process emptied the log during the read: then these may be bytes of two logs.
+/// Returns the log beside a file and its bytes, or no log and no bytes if it has no record.
 fn read_shared_log<R: Files<File = File> + AllocGlobal>(
     rt: &R,
-    log: &str,
-) -> Result<Option<Vec<u8>>, LogTrouble> {
-    let none = Vec::new(rt.alloc());
-    let Some(mut file) = open_log(rt, log)? else {
-        return Ok(Some(none));
+    path: &str,
+) -> Result<(Option<File>, Vec<u8>), LogTrouble> {
+    let FoundLog::Records(mut file) = find_log(rt, path).map_err(trouble_of)? else {
+        return Ok((None, Vec::new(rt.alloc())));
     };
-    let (mut before, mut after) = ([0; HEAD_LEN], [0; HEAD_LEN]);
-    let head = read_head(&file, &mut before).map_err(trouble_of)?;
-    if !head.starts_with(&[1]) {
-        return Ok(Some(none));
-    }
     let bytes = read_file(rt.alloc(), &mut file)?;
-    let is_same = bytes.starts_with(head)
-        && read_head(&file, &mut after).map_err(trouble_of)? == head;
-    Ok(is_same.then_some(bytes))
+    Ok((Some(file), bytes))
+}
+
+/// Returns true if a log that was read still has its records. A process of an older version may empty a log and begin
+/// it anew: then the bytes of one reading may be of two logs.
+fn has_still(log: Option<File>, records: &[u8]) -> bool {
+    let Some(mut log) = log else {
+        return true;
+    };
+    log.seek(SeekFrom::Start(0)).is_ok() && goes_on_with(&mut log, records).unwrap_or(false)
 }
 
 /// Returns what the bytes of a file stand for with those of its log. The log of another file is refused.
@@ -221,12 +117,12 @@ fn read_once<R: Files<File = File> + AllocGlobal>(
     path: &str,
     file: &mut File,
 ) -> Result<Option<RecoveredImage>, LogTrouble> {
-    let (_, log) = log_paths(rt, path).map_err(trouble_of)?;
-    let Some(bytes) = read_shared_log(rt, log.as_str())? else {
-        return Ok(None);
-    };
+    let (log, mut bytes) = read_shared_log(rt, path)?;
     let made = recovered(read_file(rt.alloc(), file)?, &bytes);
-    if leads_to(rt, path, file) {
+    if let Ok(made) = &made {
+        bytes.truncate(made.end);
+    }
+    if has_still(log, &bytes) && leads_to(rt, path, file) {
         Ok(Some(made?))
     } else {
         Ok(None)

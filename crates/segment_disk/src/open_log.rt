@@ -2,18 +2,19 @@
 ghost use Rattle.std.specs.Prelude.{IfOk};
 ghost use Rattle.segment_disk.specs.Logs.{StandsCommitted};
 
-use crate::locks::{FileLock, Identity, are_different, leads_to, open_to_write, sync_file};
-use crate::logs::{LogTrouble, committed, has_log, log_paths, read_file, read_log, trouble_of};
+use crate::found_log::{FoundLog, end_empty, log_beside};
+use crate::locks::{
+    FileLock, Identity, are_different, is_named, open_to_write, remove_named, sync_file,
+};
+use crate::logs::{LogTrouble, committed, read_file, trouble_of};
+use crate::paths::log_paths;
 use crate::presence::FileProblem;
-use crate::replacement_file::take_rights;
-use crate::settling::renew_log;
-use crate::spare_file::{SpareFile, is_folder_synced};
-use crate::sparse::{are_zeros, longest_file};
-use segment_log::{CommittedImage, GATE_LEN, LogFault};
+use crate::settling::put_log;
+use crate::sparse::longest_file;
+use segment_log::{CommittedImage, LogFault};
+use std::alloc::Global;
 use std::fs::{self, File};
-use std::io::{self, ErrorKind, Read, Write};
-use std::os::unix::fs::FileExt;
-use std::path::PathBuf;
+use std::os::unix::fs::{FileExt, MetadataExt};
 use std::rt::Files;
 use std::time::Clock;
 
@@ -23,8 +24,8 @@ pub(crate) struct OpenLog {
     log: File,
     /// The path of the log.
     path: String,
-    /// The path of the file, which leads through no link.
-    file: PathBuf,
+    /// The path of the file, whose last part is no link.
+    file: String,
     /// How many bytes the log may have.
     longest: u64,
 }
@@ -53,71 +54,45 @@ fn synced_bytes<R: Files<File = File> + AllocGlobal>(
     }
 }
 
-/// Returns true if a file begins with a shut gate. The log has no record then.
-fn is_shut(mut log: File) -> io::Result<bool> {
-    let mut gate = [1; GATE_LEN];
-    match log.read_exact(&mut gate) {
-        Ok(()) => Ok(are_zeros(&gate)),
-        Err(error) if error.kind() == ErrorKind::UnexpectedEof => Ok(false),
-        Err(error) => Err(error),
+/// Returns the problem with what has the name of a log and is none.
+fn in_the_way<R: Files<File = File>>(files: &R, log: &str) -> FileProblem {
+    match fs::symlink_metadata(files, log) {
+        Ok(found) if found.is_file() && found.len() == 0 => FileProblem::EmptyLog,
+        _ => FileProblem::LogTaken,
     }
 }
 
-/// Removes a log without a record that a writer left. Another file that has the name of a log stays.
-fn remove_left<R: Files<File = File>>(files: &R, path: &str) -> io::Result<()> {
-    match fs::symlink_metadata(files, path) {
-        Ok(found) if found.is_file() => {}
-        Ok(_) => return Err(io::Error::from(ErrorKind::AlreadyExists)),
-        Err(error) if error.kind() == ErrorKind::NotFound => return Ok(()),
-        Err(error) => return Err(error),
-    }
-    if !is_shut(fs::open(files, path)?)? {
-        return Err(io::Error::from(ErrorKind::AlreadyExists));
-    }
-    fs::remove_file(files, path)
-}
-
-/// Gives a log the rights of its file, and writes its shut gate through.
-fn write_gate(log: &mut File, file: &File, gate: &[u8]) -> io::Result<()> {
-    take_rights(log, &file.metadata()?)?;
-    log.write_all(gate)?;
-    log.sync_all()
-}
-
-/// Makes a log of a shut gate, with the rights of its file, and gives it its name when it is on the disk.
-fn make_log<R: Files<File = File> + AllocGlobal + Clock>(
-    rt: &R,
-    path: &str,
-    file: &File,
-    gate: &[u8],
-) -> io::Result<File> {
-    remove_left(rt, path)?;
-    let (mut log, spare, _) = SpareFile::make(rt, path, 0o600)?;
-    let named = match write_gate(&mut log, file, gate) {
-        Ok(()) => spare.give_name(rt, path),
-        Err(error) => Err(error),
-    };
-    if let Err(error) = named {
-        spare.discard(rt);
-        return Err(error);
-    }
-    if is_folder_synced(rt, path) == Some(true) {
-        Ok(log)
-    } else {
-        Err(io::Error::from(ErrorKind::Other))
-    }
-}
-
-/// Returns the bytes of the log of a path if it is beside its file and has a record, and none otherwise.
-fn records_of<R: Files<File = File> + AllocGlobal>(
+/// Returns the log beside a file if it has a record. A log without a record is removed.
+fn log_with_records<R: Files<File = File> + AllocGlobal>(
     rt: &R,
     file: &str,
     log: &str,
-) -> Result<Vec<u8>, LogTrouble> {
-    if has_log(rt, file).map_err(trouble_of)? {
-        read_log(rt, log)
+) -> Result<Option<File>, LogTrouble> {
+    match log_beside(rt, file).map_err(trouble_of)? {
+        FoundLog::Nothing => Ok(None),
+        FoundLog::Foreign => Err(Some(in_the_way(rt, log))),
+        FoundLog::Records(found) => Ok(Some(found)),
+        FoundLog::Empty(found) => {
+            end_empty(rt, log, &found).map_err(trouble_of)?;
+            Ok(None)
+        }
+    }
+}
+
+/// Returns the bytes of a log, or no bytes if there is none.
+fn read_records(alloc: Global, log: Option<&mut File>) -> Result<Vec<u8>, LogTrouble> {
+    match log {
+        Some(log) => read_file(alloc, log),
+        None => Ok(Vec::new(alloc)),
+    }
+}
+
+/// Refuses the first log of a file that has several names: who opens it by another name finds no log.
+fn refuse_names(file: &File) -> Result<(), LogTrouble> {
+    if file.metadata().map_err(trouble_of)?.nlink() > 1 {
+        Err(Some(FileProblem::SeveralNames))
     } else {
-        Ok(Vec::new(rt.alloc()))
+        Ok(())
     }
 }
 
@@ -133,20 +108,17 @@ impl OpenLog {
     {
         let (real, log) = log_paths(rt, path).map_err(trouble_of)?;
         let (file, bytes) = synced_bytes(rt, real.as_str(), lock)?;
-        let records = records_of(rt, real.as_str(), log.as_str())?;
-        let (kept, gated) = committed(rt.alloc(), bytes, &records)?;
-        let longest = longest_file(rt);
-        if gated.len() as u64 > longest {
-            return Err(Some(FileProblem::Unwritten));
+        let mut old = log_with_records(rt, real.as_str(), log.as_str())?;
+        if old.is_none() {
+            refuse_names(&file)?;
         }
-        let made = if kept.end > 0 {
-            renew_log(rt, log.as_str(), &gated)
-        } else {
-            make_log(rt, log.as_str(), &file, &gated)
-        };
+        let records = read_records(rt.alloc(), old.as_mut())?;
+        let (kept, gated) = committed(rt.alloc(), bytes, &records)?;
+        let made = put_log(rt, log.as_str(), &file, old.as_ref(), &gated)?;
+        let longest = longest_file(rt);
         Ok((
             OpenLog {
-                log: made.map_err(trouble_of)?,
+                log: made,
                 path: log,
                 file: real,
                 longest,
@@ -162,7 +134,7 @@ impl OpenLog {
 
     /// Tells whether the log and the held file still have their names.
     pub(crate) fn is_beside<R: Files<File = File>>(&self, files: &R, lock: &FileLock) -> bool {
-        leads_to(files, self.path.as_str(), &self.log)
+        is_named(files, self.path.as_str(), &self.log)
             && !are_different(
                 lock.identity(),
                 Identity::at(files, self.file.as_str()).ok(),
@@ -191,8 +163,6 @@ impl OpenLog {
 
     /// Removes the log, if it still has its name and can be removed.
     pub(crate) fn remove<R: Files<File = File>>(&self, files: &R) {
-        if leads_to(files, self.path.as_str(), &self.log) {
-            let _ = fs::remove_file(files, self.path.as_str());
-        }
+        let _ = remove_named(files, self.path.as_str(), &self.log);
     }
 }

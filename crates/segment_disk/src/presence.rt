@@ -70,6 +70,18 @@ pub enum FileProblem {
     Log,
     /// The log beside it is of another file.
     ForeignLog,
+    /// What has the name of its log is no log.
+    LogTaken,
+    /// An empty file has the name of its log.
+    EmptyLog,
+    /// A log with commits was left beside the name of a file that is to be made.
+    LogLeft,
+    /// It has several names, and a log is found by one name alone.
+    SeveralNames,
+    /// The system did not lock it, and did not say that it locks no files.
+    NotLocked,
+    /// The folder with its name can't be opened, so the name can't be synced.
+    UnsyncedName,
     /// It was not written completely, or the system did not confirm that it is on the disk.
     Unwritten,
 }

@@ -1,11 +1,13 @@
 //! Files of the system that are made beside others, to take their place.
 
-use crate::locks::{FileLock, Identity, open_to_write};
-use crate::spare_file::{SpareFile, sync_folder};
-use std::fs::{self, File, Metadata, Permissions};
+use crate::locks::{FileLock, Identity, open_to_write, sync_file};
+use crate::logs::{LogTrouble, trouble_of};
+use crate::paths::copy_path;
+use crate::presence::FileProblem;
+use crate::rights::take_rights;
+use crate::spare_file::{SpareFile, open_folder};
+use std::fs::{self, File, Metadata};
 use std::io::{self, ErrorKind};
-use std::os::unix::fs::{MetadataExt, PermissionsExt, fchown};
-use std::path::PathBuf;
 use std::rt::Files;
 use std::time::Clock;
 
@@ -13,67 +15,60 @@ use std::time::Clock;
 #[derive(Drop)]
 pub(crate) struct ReplacementFile {
     /// The path of the other, which leads through no link.
-    old: PathBuf,
+    old: String,
+    /// Which file the other is.
+    replaced: Identity,
     /// The file itself.
     spare: SpareFile,
+    /// The folder of both.
+    folder: File,
     /// What there is to hold of it: it is held before it has the other's name.
     lock: FileLock,
     /// Whether it has the other's owner.
     has_owner: bool,
 }
 
-/// Gives a file the owner, group and rights of another, as far as the process may, and tells whether the owner is the
-/// same. A file of another owner sets no user or group for programs. A group that it did not have gets what all others
-/// have.
-pub(crate) fn take_rights(file: &File, old: &Metadata) -> io::Result<bool> {
-    let own = file.metadata()?;
-    let mut mode = old.mode() & 0o7777;
-    let mut has_owner = own.uid() == old.uid();
-    if !has_owner || own.gid() != old.gid() {
-        if fchown(file, Some(old.uid()), Some(old.gid())).is_ok() {
-            has_owner = true;
-        } else {
-            mode &= 0o777;
-            if own.gid() != old.gid() && fchown(file, None, Some(old.gid())).is_err() {
-                mode &= 0o707 | (mode & 0o7) << 3;
-            }
-        }
+/// Returns what the system tells of the file of a path, which is on a disk and no link, and may be written.
+fn writable<R: Files<File = File>>(files: &R, path: &str) -> io::Result<Metadata> {
+    let found = fs::symlink_metadata(files, path)?;
+    if !found.is_file() {
+        return Err(io::Error::from(ErrorKind::InvalidInput));
     }
-    file.set_permissions(Permissions::from_mode(mode))?;
-    Ok(has_owner)
+    open_to_write(files, path)?;
+    Ok(found)
 }
 
 impl ReplacementFile {
-    /// Makes an empty file beside the one of a path, with its owner and rights as far as that can be. If one file may
-    /// be written, the path leads to it.
+    /// Makes an empty file beside the one of a path, which leads through no link, with its owner and rights as far as
+    /// that can be. If one file may be written, the path leads to it.
     pub(crate) fn make<R: Files<File = File> + AllocGlobal + Clock>(
         rt: &R,
         path: &str,
         held: Option<Identity>,
-    ) -> io::Result<(File, ReplacementFile)> {
-        let old = fs::canonicalize(rt, path)?;
-        let described = fs::metadata(rt, old.as_path())?;
-        if !described.is_file() {
-            return Err(io::Error::from(ErrorKind::InvalidInput));
+    ) -> Result<(File, ReplacementFile), LogTrouble> {
+        let described = writable(rt, path).map_err(trouble_of)?;
+        let replaced = Identity::new(&described);
+        if held.is_some() && held != Some(replaced) {
+            return Err(Some(FileProblem::Exists));
         }
-        open_to_write(rt, old.as_str())?;
-        if held.is_some() && Identity::at(rt, old.as_str()).ok() != held {
-            return Err(io::Error::from(ErrorKind::AlreadyExists));
-        }
-        let (file, spare, lock) = SpareFile::make(rt, old.as_str(), 0o600)?;
+        let folder = open_folder(rt, path)?;
+        let old = copy_path(rt.alloc(), path).map_err(trouble_of)?;
+        let (file, spare, lock) = SpareFile::make(rt, path, 0o600).map_err(trouble_of)?;
         match take_rights(&file, &described) {
             Ok(has_owner) => Ok((
                 file,
                 ReplacementFile {
                     old,
+                    replaced,
                     spare,
+                    folder,
                     lock,
                     has_owner,
                 },
             )),
             Err(error) => {
                 spare.discard(rt);
-                Err(error)
+                Err(trouble_of(error))
             }
         }
     }
@@ -88,14 +83,19 @@ impl ReplacementFile {
         self.lock
     }
 
-    /// Puts the file in the place of the other.
+    /// Puts the file in the place of the other, if that still has its name. The rights of the other may have changed.
     pub(crate) fn place<R: Files<File = File>>(&self, files: &R) -> io::Result<()> {
+        let found = fs::symlink_metadata(files, self.old.as_str())?;
+        if Identity::new(&found) != self.replaced {
+            return Err(io::Error::from(ErrorKind::AlreadyExists));
+        }
+        take_rights(self.spare.file(), &found)?;
         self.spare.replace(files, self.old.as_str())
     }
 
-    /// Writes the folder through, which has the name, if it can be opened.
-    pub(crate) fn sync_folder<R: Files<File = File>>(&self, files: &R) -> bool {
-        sync_folder(files, self.old.as_str())
+    /// Syncs the folder, which has the name.
+    pub(crate) fn sync_folder(&self) -> bool {
+        sync_file(&self.folder)
     }
 
     /// Removes the file, if that can be done.

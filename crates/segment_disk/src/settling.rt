@@ -1,13 +1,16 @@
 //! The end of a log: its commits become the file, before the file is written otherwise.
 ghost use Rattle.std.specs.Prelude.{⊤};
 
-use crate::locks::{FileLock, Identity, open_to_write, sync_file};
-use crate::logs::{LogTrouble, committed, has_log, log_paths, read_file, read_log, trouble_of};
+use crate::found_log::{FoundLog, end_empty, find_log, log_beside};
+use crate::locks::{FileLock, Identity, is_named, remove_named, sync_file};
+use crate::logs::{LogTrouble, committed, read_file, trouble_of};
+use crate::paths::{log_path, log_paths};
 use crate::presence::FileProblem;
 use crate::replacement_file::ReplacementFile;
-use crate::spare_file::is_folder_synced;
+use crate::rights::take_log_rights;
+use crate::spare_file::{SpareFile, open_folder};
 use crate::sparse::{SparseFile, longest_file};
-use segment_log::{LogDisk, LogFault, checkpoint, next_record};
+use segment_log::{LogDisk, LogFault, checkpoint};
 use std::fs::{self, File};
 use std::io::{self, ErrorKind, Write};
 use std::os::unix::fs::FileExt;
@@ -26,14 +29,14 @@ fn write_through(file: SparseFile, bytes: &[u8]) -> io::Result<()> {
     }
 }
 
-/// Puts a new file of these bytes in the place of a file, with its rights. Returns what there is to hold of the new
-/// one, and whether it has its name for good.
+/// Puts a new file of these bytes in the place of a file, whose path leads through no link, with its rights. Returns
+/// what there is to hold of the new one, and whether it has its name for good.
 pub(crate) fn put_in_place<R: Files<File = File> + AllocGlobal + Clock>(
     rt: &R,
     path: &str,
     held: Option<Identity>,
     bytes: &[u8],
-) -> io::Result<(FileLock, bool)> {
+) -> Result<(FileLock, bool), LogTrouble> {
     let (file, beside) = ReplacementFile::make(rt, path, held)?;
     let written = write_through(SparseFile::new(file, longest_file(rt)), bytes);
     let placed = match written {
@@ -41,10 +44,13 @@ pub(crate) fn put_in_place<R: Files<File = File> + AllocGlobal + Clock>(
         Err(error) => Err(error),
     };
     match placed {
-        Ok(()) => Ok((beside.into_lock(), is_folder_synced(rt, path) == Some(true))),
+        Ok(()) => {
+            let lasts = beside.sync_folder();
+            Ok((beside.into_lock(), lasts))
+        }
         Err(error) => {
             beside.discard(rt);
-            Err(error)
+            Err(trouble_of(error))
         }
     }
 }
@@ -85,58 +91,96 @@ impl<'a, R: Files<File = File> + AllocGlobal + Clock> LogDisk for LoggedFile<'a,
                 *hold = lock;
                 if lasts { Ok(()) } else { Err(LogFault) }
             }
-            Err(error) => {
-                self.trouble = trouble_of(error);
+            Err(trouble) => {
+                self.trouble = trouble;
                 Err(LogFault)
             }
         }
     }
 }
 
-/// Puts a copy of the records in the place of the log, and opens it: a sync of the log may have failed, so that its
-/// bytes are read and are not on the disk.
-pub(crate) fn renew_log<R: Files<File = File> + AllocGlobal + Clock>(
-    rt: &R,
-    log: &str,
-    bytes: &[u8],
-) -> io::Result<File> {
-    let (_, lasts) = put_in_place(rt, log, None, bytes)?;
-    if !lasts {
-        return Err(io::Error::from(ErrorKind::Other));
-    }
-    open_to_write(rt, log)
+/// Writes a log through, which has the rights of its file.
+fn write_log(log: &File, file: &File, bytes: &[u8]) -> io::Result<()> {
+    take_log_rights(log, &file.metadata()?)?;
+    log.write_all_at(bytes, 0)?;
+    log.sync_all()
 }
 
-/// Makes a file the image that it stands for with the records of its log, and tells whether there is one.
+/// Gives a new log its name: that of the log that is there, or one that nothing has.
+fn name_log<R: Files<File = File> + Clock>(
+    rt: &R,
+    spare: &SpareFile,
+    path: &str,
+    old: Option<&File>,
+) -> io::Result<()> {
+    match old {
+        None => spare.give_name(rt, path),
+        Some(old) if is_named(rt, path, old) => spare.replace(rt, path),
+        Some(_) => Err(io::Error::from(ErrorKind::AlreadyExists)),
+    }
+}
+
+/// Puts a new log of these bytes beside a file, in the place of the old one, if there is one: a sync of that may have
+/// failed, so that its bytes are read and are not on the disk. The new log gets its name when it is on the disk.
+pub(crate) fn put_log<R: Files<File = File> + AllocGlobal + Clock>(
+    rt: &R,
+    path: &str,
+    file: &File,
+    old: Option<&File>,
+    bytes: &[u8],
+) -> Result<File, LogTrouble> {
+    if bytes.len() as u64 > longest_file(rt) {
+        return Err(Some(FileProblem::Unwritten));
+    }
+    let folder = open_folder(rt, path)?;
+    let (log, spare, _) = SpareFile::make(rt, path, 0o600).map_err(trouble_of)?;
+    let named = match write_log(&log, file, bytes) {
+        Ok(()) => name_log(rt, &spare, path, old),
+        Err(error) => Err(error),
+    };
+    if let Err(error) = named {
+        spare.discard(rt);
+        return Err(trouble_of(error));
+    }
+    if sync_file(&folder) {
+        Ok(log)
+    } else {
+        Err(Some(FileProblem::Unwritten))
+    }
+}
+
+/// Makes a file the image that it stands for with the records of its log, which is open, and removes the log.
 fn settle_records<R: Files<File = File> + AllocGlobal + Clock>(
     rt: &R,
     path: &str,
     log: &str,
     lock: &mut FileLock,
-) -> Result<bool, LogTrouble> {
-    let records = read_log(rt, log)?;
+    found: File,
+) -> Result<(), LogTrouble> {
+    let mut open = found;
+    let records = read_file(rt.alloc(), &mut open)?;
     let mut file = fs::open(rt, path).map_err(trouble_of)?;
     if lock.identity().is_some() && Identity::of(&file) != lock.identity() {
         return Err(Some(FileProblem::Exists));
     }
     let (kept, gated) = committed(rt.alloc(), read_file(rt.alloc(), &mut file)?, &records)?;
     if kept.end == 0 {
-        return Ok(false);
+        return end_empty(rt, log, &open).map_err(trouble_of);
     }
     let mut files = LoggedFile {
         rt,
         path,
-        log: renew_log(rt, log, &gated).map_err(trouble_of)?,
+        log: put_log(rt, log, &file, Some(&open), &gated)?,
         trouble: None,
     };
-    match checkpoint(rt.alloc(), &mut files, lock, &kept.image) {
-        Ok(()) => Ok(true),
-        Err(_) => Err(files.trouble),
+    if checkpoint(rt.alloc(), &mut files, lock, &kept.image).is_err() {
+        return Err(files.trouble);
     }
+    remove_named(rt, log, &files.log).map_err(trouble_of)
 }
 
-/// Puts the commits of the log beside a file, if there is one, into the file, which is replaced by a new one, and
-/// removes the log. A crash at any moment leaves the image.
+/// Removes the log beside a file that is locked, if there is one. Its commits are put into the file before, which is
+/// replaced by a new one. A crash at any moment leaves the image. What is no log of this library stays.
 ///
 /// # Errors
 ///
@@ -146,27 +190,85 @@ pub(crate) fn settle<R: Files<File = File> + AllocGlobal + Clock>(
     path: &str,
     lock: &mut FileLock,
 ) -> Result<(), LogTrouble> {
-    if !has_log(rt, path).map_err(trouble_of)? {
+    let found = find_log(rt, path).map_err(trouble_of)?;
+    if matches!(found, FoundLog::Nothing | FoundLog::Foreign) {
         return Ok(());
     }
     let (real, log) = log_paths(rt, path).map_err(trouble_of)?;
-    if settle_records(rt, real.as_str(), log.as_str(), lock)? {
-        fs::remove_file(rt, log.as_str()).map_err(trouble_of)?;
-        is_folder_synced(rt, real.as_str());
+    match found {
+        FoundLog::Nothing | FoundLog::Foreign => Ok(()),
+        FoundLog::Empty(file) => end_empty(rt, log.as_str(), &file).map_err(trouble_of),
+        FoundLog::Records(file) => settle_records(rt, real.as_str(), log.as_str(), lock, file),
     }
-    Ok(())
 }
 
-/// Removes a log with records that was left beside the name of a file that was just made: it stands for nothing. If it
-/// can't be removed, the file is refused from then on.
-pub(crate) fn drop_log<R: Files<File = File> + AllocGlobal>(rt: &R, path: &str) {
-    if !matches!(has_log(rt, path), Ok(true)) {
-        return;
+/// Removes the log beside a file that is locked if it has no record, and returns true if it has one.
+///
+/// # Errors
+///
+/// Why that can't be done, as far as that is known.
+pub(crate) fn keeps_records<R: Files<File = File> + AllocGlobal>(
+    rt: &R,
+    path: &str,
+) -> Result<bool, LogTrouble> {
+    match find_log(rt, path).map_err(trouble_of)? {
+        FoundLog::Nothing | FoundLog::Foreign => Ok(false),
+        FoundLog::Records(_) => Ok(true),
+        FoundLog::Empty(file) => {
+            let (_, log) = log_paths(rt, path).map_err(trouble_of)?;
+            end_empty(rt, log.as_str(), &file).map_err(trouble_of)?;
+            Ok(false)
+        }
     }
-    let Ok((_, log)) = log_paths(rt, path) else {
-        return;
+}
+
+/// Returns an error if a log with records was left under the name of the log of a file that is made: that is the log of
+/// another file, which is gone. A log without a record is removed.
+///
+/// # Errors
+///
+/// Such a log is there, or one that can't be removed.
+pub(crate) fn end_left<R: Files<File = File> + AllocGlobal>(
+    rt: &R,
+    path: &str,
+) -> Result<(), LogTrouble> {
+    match log_beside(rt, path).map_err(trouble_of)? {
+        FoundLog::Nothing | FoundLog::Foreign => Ok(()),
+        FoundLog::Records(_) => Err(Some(FileProblem::LogLeft)),
+        FoundLog::Empty(file) => {
+            let log = log_path(rt.alloc(), path).map_err(trouble_of)?;
+            end_empty(rt, log.as_str(), &file).map_err(trouble_of)
+        }
+    }
+}
+
+/// Returns true if a file that is locked has its name, no log with records is beside it, and its name is on the disk.
+fn is_named_alone<R: Files<File = File> + AllocGlobal>(
+    rt: &R,
+    path: &str,
+    file: &File,
+    folder: &File,
+) -> Result<bool, LogTrouble> {
+    if !is_named(rt, path, file) {
+        return Err(Some(FileProblem::Exists));
+    }
+    end_left(rt, path)?;
+    Ok(sync_file(folder))
+}
+
+/// Syncs the name of a file that was made and is locked. If that can't be done, or a log with records is beside the
+/// file, the file is removed.
+pub(crate) fn named_for_good<R: Files<File = File> + AllocGlobal>(
+    rt: &R,
+    path: &str,
+    file: &File,
+    folder: &File,
+) -> Result<(), LogTrouble> {
+    let trouble = match is_named_alone(rt, path, file, folder) {
+        Ok(true) => return Ok(()),
+        Ok(false) => None,
+        Err(trouble) => trouble,
     };
-    if read_log(rt, log.as_str()).is_ok_and(|bytes| next_record(&bytes).is_some()) {
-        let _ = fs::remove_file(rt, log.as_str());
-    }
+    let _ = remove_named(rt, path, file);
+    Err(trouble)
 }

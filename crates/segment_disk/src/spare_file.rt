@@ -1,6 +1,9 @@
 //! Files of the system that have a hidden name, until they are whole and get the name of a segment's file.
 
-use crate::locks::{FileLock, leads_to, lock_made, sync_file};
+use crate::file_problems::creation_problem;
+use crate::locks::{FileLock, is_free, is_named, lock_made, open_to_hold, remove_named, sync_file};
+use crate::paths::folder_of;
+use crate::presence::FileProblem;
 use std::fs::{self, File, OpenFile, OpenOptions};
 use std::io::{self, ErrorKind};
 use std::os::unix::fs::OpenOptionsExt;
@@ -15,6 +18,8 @@ const NAMES: u64 = 8;
 #[derive(Drop)]
 pub(crate) struct SpareFile {
     path: String,
+    /// The file itself.
+    file: File,
 }
 
 /// Returns a number for a file's name (FNV-1a), by which its hidden names are made.
@@ -31,11 +36,11 @@ fn remove_abandoned<R: Files<File = File>>(files: &R, path: &str) -> io::Result<
     if !fs::symlink_metadata(files, path)?.is_file() {
         return Ok(());
     }
-    let file = fs::open(files, path)?;
-    if file.try_lock().is_err() || !leads_to(files, path, &file) {
-        return Ok(());
+    let file = open_to_hold(files, path)?;
+    if is_free(&file) {
+        remove_named(files, path, &file)?;
     }
-    fs::remove_file(files, path)
+    Ok(())
 }
 
 /// Makes an empty file of a path where nothing is, and locks it, if it can be. `None` if something is there.
@@ -50,7 +55,7 @@ fn make_locked<R: Files<File = File> + Clock>(
     match options.open(rt, path) {
         Ok(file) => {
             let lock = lock_made(rt, &file)?;
-            Ok(leads_to(rt, path, &file).then_some((file, lock)))
+            Ok(is_named(rt, path, &file).then_some((file, lock)))
         }
         Err(error) if error.kind() == ErrorKind::AlreadyExists => Ok(None),
         Err(error) => Err(error),
@@ -75,57 +80,93 @@ impl SpareFile {
                 .with_file_name(rt.alloc(), hidden.as_str())?
                 .into_string();
             if let Some((file, lock)) = make_locked(rt, path.as_str(), rights)? {
-                return Ok((file, SpareFile { path }, lock));
+                let kept = file.try_clone()?;
+                return Ok((file, SpareFile { path, file: kept }, lock));
             }
         }
         Err(io::Error::from(ErrorKind::AlreadyExists))
     }
 
-    /// Gives the file the name of a path, whatever has that name.
-    pub(crate) fn replace<R: Files<File = File>>(&self, files: &R, path: &str) -> io::Result<()> {
-        fs::rename(files, self.path.as_str(), path)
+    /// Returns the file.
+    pub(crate) fn file(&self) -> &File {
+        &self.file
     }
 
-    /// Gives the file the name of a path, if nothing has that name. Where a file may not have two names, an empty one
-    /// keeps the name for it.
-    pub(crate) fn give_name<R: Files<File = File>>(&self, files: &R, path: &str) -> io::Result<()> {
-        match fs::hard_link(files, self.path.as_str(), path) {
-            Ok(()) => {
-                self.discard(files);
-                Ok(())
-            }
-            Err(error) if error.kind() == ErrorKind::AlreadyExists => Err(error),
-            Err(_) => {
-                File::create_new(files, path)?;
-                let placed = self.replace(files, path);
-                if placed.is_err() {
-                    let _ = fs::remove_file(files, path);
-                }
-                placed
-            }
+    /// Gives the file the name of a path, whatever has that name. A system may say that this failed, and have done it.
+    pub(crate) fn replace<R: Files<File = File>>(&self, files: &R, path: &str) -> io::Result<()> {
+        if !is_named(files, self.path.as_str(), &self.file) {
+            return Err(io::Error::from(ErrorKind::NotFound));
         }
+        let renamed = fs::rename(files, self.path.as_str(), path);
+        if is_named(files, path, &self.file) {
+            return Ok(());
+        }
+        renamed?;
+        Err(io::Error::from(ErrorKind::AlreadyExists))
+    }
+
+    /// Gives the file the name of a path, if nothing has that name.
+    pub(crate) fn give_name<R: Files<File = File> + Clock>(
+        &self,
+        rt: &R,
+        path: &str,
+    ) -> io::Result<()> {
+        let linked = fs::hard_link(rt, self.path.as_str(), path);
+        if is_named(rt, path, &self.file) {
+            self.discard(rt);
+            return Ok(());
+        }
+        match linked {
+            Ok(()) => Err(io::Error::from(ErrorKind::AlreadyExists)),
+            Err(error) if error.kind() == ErrorKind::AlreadyExists => Err(error),
+            Err(_) => self.take_name(rt, path),
+        }
+    }
+
+    /// Gives the file a name where a file may not have two. An empty file keeps the name for it, and is locked, so that
+    /// nobody else writes it.
+    fn take_name<R: Files<File = File> + Clock>(&self, rt: &R, path: &str) -> io::Result<()> {
+        let empty = File::create_new(rt, path)?;
+        let _lock = lock_made(rt, &empty)?;
+        if !is_named(rt, path, &empty) {
+            return Err(io::Error::from(ErrorKind::AlreadyExists));
+        }
+        let placed = self.replace(rt, path);
+        if placed.is_err() {
+            let _ = remove_named(rt, path, &empty);
+        }
+        placed
     }
 
     /// Removes the file, if that can be done.
     pub(crate) fn discard<R: Files<File = File>>(&self, files: &R) {
-        let _ = fs::remove_file(files, self.path.as_str());
+        let _ = remove_named(files, self.path.as_str(), &self.file);
     }
 }
 
-/// Writes the folder of a path through, which has the names of its files, if it can be opened.
-pub(crate) fn sync_folder<R: Files<File = File>>(files: &R, path: &str) -> bool {
-    is_folder_synced(files, path).unwrap_or(true)
+/// Opens the folder in which a file is to get the name of a path, to sync the name. What can't be synced is not made.
+///
+/// # Errors
+///
+/// Why that can't be done, as far as that is known.
+pub(crate) fn open_folder<R: Files<File = File>>(
+    files: &R,
+    path: &str,
+) -> Result<File, Option<FileProblem>> {
+    match fs::open(files, folder_of(path)) {
+        Ok(folder) => Ok(folder),
+        Err(error) if error.kind() == ErrorKind::PermissionDenied => {
+            Err(Some(FileProblem::UnsyncedName))
+        }
+        Err(error) => Err(creation_problem(error.kind(), path)),
+    }
 }
 
-/// Writes the folder of a path through, and tells whether that was done. `None` if it can't be opened.
-pub(crate) fn is_folder_synced<R: Files<File = File>>(files: &R, path: &str) -> Option<bool> {
-    let folder = match Path::new(path).parent() {
-        Some(folder) if !folder.as_str().is_empty() => folder.as_str(),
-        Some(_) => ".",
-        None => return None,
-    };
-    match fs::open(files, folder) {
-        Ok(folder) => Some(sync_file(&folder)),
-        Err(_) => None,
+/// Syncs the folder of a path, and returns true unless that fails. A folder that can't be opened is not synced: then
+/// the file of the path has to be synced behind its name.
+pub(crate) fn sync_folder<R: Files<File = File>>(files: &R, path: &str) -> bool {
+    match fs::open(files, folder_of(path)) {
+        Ok(folder) => sync_file(&folder),
+        Err(error) => error.kind() == ErrorKind::PermissionDenied,
     }
 }

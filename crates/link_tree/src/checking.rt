@@ -30,18 +30,18 @@ struct Part {
 }
 
 /// Returns true if the node follows `low` and precedes `high`, as far as they are there.
-fn stands_between<N: Nodes>(
-    nodes: &CountedNodes<N>,
+fn stands_between<N: Nodes + Copy>(
+    nodes: CountedNodes<N>,
     visits: &mut NodeCursor,
     low: Option<u64>,
     node: u64,
     high: Option<u64>,
 ) -> bool
-    requires min_value { leads (N.is_node nodes.now) low ≡ true }
-    requires max_value { leads (N.is_node nodes.now) high ≡ true }
-    requires node { N.is_node nodes.now node ≡ true }
+    requires min_value { leads (N.is_node nodes) low ≡ true }
+    requires max_value { leads (N.is_node nodes) high ≡ true }
+    requires node { N.is_node nodes node ≡ true }
     requires no_overflow { visits.old.steps + 4 < 2 ^ 64 }
-    ensures value { result ≡ is_between (N.order nodes.now) low node high }
+    ensures value { result ≡ is_between (N.order nodes) low node high }
     ensures position { low ≡ None → high ≡ None → visits.new.at ≡ visits.old.at }
     ensures steps_lower { visits.old.steps ≤ visits.new.steps }
     ensures steps_upper { visits.new.steps ≤ visits.old.steps + 4 }
@@ -50,12 +50,12 @@ fn stands_between<N: Nodes>(
         → visits.old.steps < visits.new.steps }
 {
     if let Some(low) = low {
-        if !visits.precedes(nodes, low, node) {
+        if !visits.precedes(&nodes, low, node) {
             return false;
         }
     }
     match high {
-        Some(high) => visits.precedes(nodes, node, high),
+        Some(high) => visits.precedes(&nodes, node, high),
         None => true,
     }
 }
@@ -64,8 +64,8 @@ fn stands_between<N: Nodes>(
 ///
 /// It visits no node twice between the same bounds, so it ends on cycles and shared nodes too. Each nested call has one
 /// level less, so the depth is at most 82 calls for any links.
-fn check_below<N: Nodes>(
-    nodes: &CountedNodes<N>,
+fn check_below<N: Nodes + Copy>(
+    nodes: CountedNodes<N>,
     visits: &mut NodeCursor,
     link: Option<u64>,
     low: Option<u64>,
@@ -74,22 +74,22 @@ fn check_below<N: Nodes>(
     levels: u64,
 ) -> Option<Part>
     requires height { levels ≤ 82 }
-    requires link { leads (N.is_node nodes.now) link ≡ true }
-    requires min_value { leads (N.is_node nodes.now) low ≡ true }
-    requires max_value { leads (N.is_node nodes.now) high ≡ true }
-    requires no_overflow { (ns : List ℕ) × IsLinkClosed (N.cells nodes.now) ns
+    requires link { leads (N.is_node nodes) link ≡ true }
+    requires min_value { leads (N.is_node nodes) low ≡ true }
+    requires max_value { leads (N.is_node nodes) high ≡ true }
+    requires no_overflow { (ns : List ℕ) × IsLinkClosed (N.cells nodes) ns
         × (leads (λ n. is_in n ns) link ≡ true)
-        × (visits.old.steps + 5 * count_between (N.order nodes.now) low high ns + 5 < 2 ^ 64) }
+        × (visits.old.steps + 5 * count_between (N.order nodes) low high ns + 5 < 2 ^ 64) }
     ensures sound { IfSome result (λ part. (t : Tree)
-        × IsSound (N.order nodes.now) (N.cells nodes.now) link low high red_above t part.blacks
+        × IsSound (N.order nodes) (N.cells nodes) link low high red_above t part.blacks
         × (length (nodes_of t) ≡ part.nodes)) }
     // It finds each such tree of height at most `levels`.
     ensures complete { (t : Tree) (blacks : ℕ)
-        → IsSound (N.order nodes.now) (N.cells nodes.now) link low high red_above t blacks
+        → IsSound (N.order nodes) (N.cells nodes) link low high red_above t blacks
         → height t ≤ levels → is_some result ≡ true }
-    ensures steps { (ns : List ℕ) → IsLinkClosed (N.cells nodes.now) ns
+    ensures steps { (ns : List ℕ) → IsLinkClosed (N.cells nodes) ns
         → leads (λ n. is_in n ns) link ≡ true
-        → visits.new.steps ≤ visits.old.steps + 5 * count_between (N.order nodes.now) low high ns
+        → visits.new.steps ≤ visits.old.steps + 5 * count_between (N.order nodes) low high ns
         + (if is_some result then 0 else 5) }
     // The check visits a node again after it has left it, and when it compares the node with a bound.
     ensures steps_lower { visits.old.at ≡ None ⊎ (is_some low ≡ true ⊎ is_some high ≡ true)
@@ -108,9 +108,9 @@ fn check_below<N: Nodes>(
     if !stands_between(nodes, visits, low, node, high) {
         return None;
     }
-    let red = visits.red(nodes, node);
-    let left = visits.child(nodes, node, Side::Left);
-    let right = visits.child(nodes, node, Side::Right);
+    let red = visits.red(&nodes, node);
+    let left = visits.child(&nodes, node, Side::Left);
+    let right = visits.child(&nodes, node, Side::Right);
     if red && red_above {
         return None;
     }
@@ -154,7 +154,7 @@ pub fn check<N: Nodes>(nodes: &N, root: Option<u64>) -> CheckedTree
     ensures steps_lower { IfSome result.nodes (λ n. n ≤ result.steps) }
 {
     let (nodes, mut visits) = count_steps(nodes);
-    let Some(part) = check_below(&nodes, &mut visits, root, None, None, true, MAX_HEIGHT) else {
+    let Some(part) = check_below(nodes, &mut visits, root, None, None, true, MAX_HEIGHT) else {
         return CheckedTree {
             nodes: None,
             steps: visits.steps(),

@@ -48,7 +48,7 @@ pub struct DescentStep {
 }
 
 /// Nodes that only a cursor reads and writes. Contracts read it as the nodes.
-#[derive(Drop)]
+#[derive(Clone, Copy, Drop)]
 pub struct CountedNodes<N> {
     nodes: N,
 }
@@ -57,6 +57,8 @@ impl<N> Model for CountedNodes<N> {
     ghost Value = { N };
 
     ghost view = { λ s. s.nodes };
+
+    ghost inverse = { λ n. record { nodes = n } };
 }
 
 impl<N> CountedNodes<N> {

@@ -20,20 +20,20 @@ pub struct Listing {
 
 /// Appends the nodes behind the link, down to `levels` levels, to a list that has `count` nodes so far. Returns its new
 /// count.
-fn list_below<N: Nodes>(
-    nodes: &CountedNodes<N>,
+fn list_below<N: Nodes + Copy>(
+    nodes: CountedNodes<N>,
     visits: &mut NodeCursor,
     link: Option<u64>,
     list: &mut [u64],
     count: usize,
     levels: u64,
 ) -> usize
-    requires link { leads (N.is_node nodes.now) link ≡ true }
+    requires link { leads (N.is_node nodes) link ≡ true }
     requires count { count ≤ length list.old }
-    requires tree { (t : Tree) × IsLowSearchTree (N.order nodes.now) (N.cells nodes.now) link levels t
+    requires tree { (t : Tree) × IsLowSearchTree (N.order nodes) (N.cells nodes) link levels t
         × (visits.old.steps + length (nodes_of t) + 1 < 2 ^ 64) }
     // It lists as if no node preceded a probe.
-    ensures listing { (t : Tree) → IsLowSearchTree (N.order nodes.now) (N.cells nodes.now) link levels t
+    ensures listing { (t : Tree) → IsLowSearchTree (N.order nodes) (N.cells nodes) link levels t
         → Lists (λ _. false) t list.old count list.new result visits.old.steps visits.new.steps }
     ensures in_bounds { result ≤ length list.new }
 {
@@ -43,8 +43,8 @@ fn list_below<N: Nodes>(
     if count == list.len() {
         return count;
     }
-    let left = visits.child(nodes, node, Side::Left);
-    let right = visits.child(nodes, node, Side::Right);
+    let left = visits.child(&nodes, node, Side::Left);
+    let right = visits.child(&nodes, node, Side::Right);
     let listed = list_below(nodes, visits, left, list, count, levels - 1);
     if listed == list.len() {
         return listed;
@@ -55,30 +55,30 @@ fn list_below<N: Nodes>(
 
 /// Writes the nodes behind the link that do not precede the probe to the first places of the list, down to `levels`
 /// levels. Returns how many it wrote. It compares only nodes of the path to the first of them.
-fn list_from<N: Nodes>(
-    nodes: &CountedNodes<N>,
+fn list_from<N: Nodes + Copy>(
+    nodes: CountedNodes<N>,
     visits: &mut NodeCursor,
     link: Option<u64>,
     probe: &N::Probe,
     list: &mut [u64],
     levels: u64,
 ) -> usize
-    requires link { leads (N.is_node nodes.now) link ≡ true }
-    requires tree { (t : Tree) × IsLowSearchTree (N.order nodes.now) (N.cells nodes.now) link levels t
+    requires link { leads (N.is_node nodes) link ≡ true }
+    requires tree { (t : Tree) × IsLowSearchTree (N.order nodes) (N.cells nodes) link levels t
         × (visits.old.steps + length (nodes_of t) + 1 < 2 ^ 64) }
-    ensures listing { (t : Tree) → IsLowSearchTree (N.order nodes.now) (N.cells nodes.now) link levels t
-        → Lists (N.before nodes.now probe.now) t list.old 0 list.new result visits.old.steps visits.new.steps }
+    ensures listing { (t : Tree) → IsLowSearchTree (N.order nodes) (N.cells nodes) link levels t
+        → Lists (N.before nodes probe.now) t list.old 0 list.new result visits.old.steps visits.new.steps }
     ensures in_bounds { result ≤ length list.new }
 {
     let Some(node) = link else {
         return 0;
     };
-    let before = visits.before_probe(nodes, node, probe);
-    let right = visits.child(nodes, node, Side::Right);
+    let before = visits.before_probe(&nodes, node, probe);
+    let right = visits.child(&nodes, node, Side::Right);
     if before {
         return list_from(nodes, visits, right, probe, list, levels - 1);
     }
-    let left = visits.child(nodes, node, Side::Left);
+    let left = visits.child(&nodes, node, Side::Left);
     let listed = list_from(nodes, visits, left, probe, list, levels - 1);
     if listed == list.len() {
         return listed;
@@ -108,7 +108,7 @@ pub fn list_nodes_from<N: Nodes>(
         → result.steps ≤ result.count + 4 * bits (length (nodes_of t) + 1) }
 {
     let (nodes, mut visits) = count_steps(nodes);
-    let count = list_from(&nodes, &mut visits, root, probe, list, MAX_HEIGHT);
+    let count = list_from(nodes, &mut visits, root, probe, list, MAX_HEIGHT);
     Listing {
         count,
         steps: visits.steps(),

@@ -32,6 +32,7 @@ struct Least {
 /// Moves a black node from this side, the heavy one, to the other side of `top` if that side lost one.
 ///
 /// Jean-Christophe Filliâtre and Pierre Letouzey, Functors for Proofs and Programs, 2004.
+#[inline(never)]
 fn mend<N: NodesMut>(
     nodes: &mut CountedNodes<N>,
     visits: &mut NodeCursor,
@@ -79,6 +80,7 @@ fn mend<N: NodesMut>(
 }
 
 /// Links the changed subtree to its parent on this side, and rebalances the parent.
+#[inline(always)]
 fn settle<N: NodesMut>(
     nodes: &mut CountedNodes<N>,
     visits: &mut NodeCursor,

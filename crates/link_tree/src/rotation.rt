@@ -106,6 +106,7 @@ fn flip_colours<N: NodesMut>(
 ///
 /// Rotations: Chris Okasaki, Red-Black Trees in a Functional Setting, 1999. Colours: Cormen, Leiserson, Rivest and
 /// Stein, Introduction to Algorithms, chapter 13.
+#[inline(always)]
 pub fn fix_double_red<N: NodesMut>(
     nodes: &mut CountedNodes<N>,
     visits: &mut NodeCursor,

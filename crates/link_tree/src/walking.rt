@@ -11,31 +11,31 @@ use crate::cursor::{CountedNodes, NodeCursor, Side, count_steps};
 use crate::nodes::Nodes;
 
 /// Visits the nodes behind the link in order, down to `levels` levels.
-fn walk_below<N: Nodes, F: FnMut(u64)>(
-    nodes: &CountedNodes<N>,
+fn walk_below<N: Nodes + Copy, F: FnMut(u64)>(
+    nodes: CountedNodes<N>,
     visits: &mut NodeCursor,
     link: Option<u64>,
     visit: &mut F,
     levels: u64,
 )
     requires callable { F.IsAlwaysCallable visit.old }
-    requires link { leads (N.is_node nodes.now) link ≡ true }
-    requires tree { (t : Tree) × IsAhead (N.order nodes.now) (N.cells nodes.now) link levels visits.old.at t
+    requires link { leads (N.is_node nodes) link ≡ true }
+    requires tree { (t : Tree) × IsAhead (N.order nodes) (N.cells nodes) link levels visits.old.at t
         × (visits.old.steps + length (nodes_of t) + 1 < 2 ^ 64) }
-    ensures walk { (t : Tree) → IsAhead (N.order nodes.now) (N.cells nodes.now) link levels visits.old.at t
+    ensures walk { (t : Tree) → IsAhead (N.order nodes) (N.cells nodes) link levels visits.old.at t
         → FoldsTo (λ p x q. F.step p x tt q) visit.old (nodes_of t) visit.new }
     ensures callable { F.IsAlwaysCallable visit.new }
-    ensures steps { (t : Tree) → IsAhead (N.order nodes.now) (N.cells nodes.now) link levels visits.old.at t
+    ensures steps { (t : Tree) → IsAhead (N.order nodes) (N.cells nodes) link levels visits.old.at t
         → visits.new.steps ≡ visits.old.steps + length (nodes_of t) }
     // The cursor stands where it stood before, or at a node of the tree.
-    ensures position { (t : Tree) → IsAhead (N.order nodes.now) (N.cells nodes.now) link levels visits.old.at t
+    ensures position { (t : Tree) → IsAhead (N.order nodes) (N.cells nodes) link levels visits.old.at t
         → (m : ℕ) → is_in m (nodes_of t) ≡ false → visits.old.at ≢ Some m → visits.new.at ≢ Some m }
 {
     let Some(node) = link else {
         return;
     };
-    let left = visits.child(nodes, node, Side::Left);
-    let right = visits.child(nodes, node, Side::Right);
+    let left = visits.child(&nodes, node, Side::Left);
+    let right = visits.child(&nodes, node, Side::Right);
     walk_below(nodes, visits, left, visit, levels - 1);
     visit(node);
     walk_below(nodes, visits, right, visit, levels - 1);
@@ -57,6 +57,6 @@ pub fn walk<N: Nodes, F: FnMut(u64)>(nodes: &N, root: Option<u64>, visit: &mut F
         → result ≡ length (nodes_of t) }
 {
     let (nodes, mut visits) = count_steps(nodes);
-    walk_below(&nodes, &mut visits, root, visit, MAX_HEIGHT);
+    walk_below(nodes, &mut visits, root, visit, MAX_HEIGHT);
     visits.steps()
 }

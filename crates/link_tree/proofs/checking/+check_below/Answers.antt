@@ -103,10 +103,10 @@ record IsRead (g : Over) (s : g.row.N.Denot) (link : Option ℕ) (n : ℕ) (low 
   few : end ≤ start + 5
 
 read : (g : Over) (t : ℕ) (c : After-child-right g t)
-    → IsRead g c.args.nodes.now c.args.link c.in-Some.node c.args.low c.args.high c.child-left.result
+    → IsRead g c.args.nodes c.args.link c.in-Some.node c.args.low c.args.high c.child-left.result
     c.child-right.result c.red-red.result c.args.visits.now.steps c.child-right.new.self.steps
 read g t c =
-    let s = c.args.nodes.now in
+    let s = c.args.nodes in
     let n = c.in-Some.node in
     let stands = and_parts (is_above (g.N.Nodes.order s) c.args.low n) (is_below (g.N.Nodes.order s) n c.args.high)
     (sym c.stands_between.ensures.value ∙ c.if-not-stands_between.false) in
@@ -223,7 +223,7 @@ module _ {g : Over} {s : g.row.N.Denot} {link : Option ℕ} {n : ℕ} {low high 
 
 pub returns-then-not-stands_between-clause-complete : goal.returns-then-not-stands_between-clause-complete
 returns-then-not-stands_between-clause-complete g t c = λ u b k lower.
-    let s = c.args.nodes.now in
+    let s = c.args.nodes in
     let here = subst (λ (o : Option ℕ). Sound g s o c.args.low c.args.high c.args.red_above u b) c.in-Some.is k in
     let p = parts_of (strict g.met.N.Nodes s) (g.N.Nodes.cells s)
     c.in-Some.node c.args.low c.args.high c.args.red_above u b here in
@@ -233,11 +233,11 @@ returns-then-not-stands_between-clause-complete g t c = λ u b k lower.
 
 -- the node parts those of the closed list
 counted : (g : Over) (t : ℕ) (c : After-red-red g t)
-    → count g c.args.nodes.now c.args.low (Some c.in-Some.node) c.requires.no_overflow.0
-    + count g c.args.nodes.now (Some c.in-Some.node) c.args.high c.requires.no_overflow.0 + 1
-    ≤ count g c.args.nodes.now c.args.low c.args.high c.requires.no_overflow.0
+    → count g c.args.nodes c.args.low (Some c.in-Some.node) c.requires.no_overflow.0
+    + count g c.args.nodes (Some c.in-Some.node) c.args.high c.requires.no_overflow.0 + 1
+    ≤ count g c.args.nodes c.args.low c.args.high c.requires.no_overflow.0
 counted g t c =
-    let s = c.args.nodes.now in
+    let s = c.args.nodes in
     let n = c.in-Some.node in
     let ns = c.requires.no_overflow.0 in
     let h = g.N.Nodes.cells s in
@@ -262,7 +262,7 @@ pub check_below-requires : goal.check_below-requires
 check_below-requires g t c =
     let r = read g t (goal.at.check_below-requires g t c).After-child-right in
     let good = c.child-left.ensures.link_target in
-    let node : g.N.Nodes.is_node c.args.nodes.now c.in-Some.node ≡ true = rw c.in-Some.is at c.requires.link in
+    let node : g.N.Nodes.is_node c.args.nodes c.in-Some.node ≡ true = rw c.in-Some.is at c.requires.link in
     let room = room_before r c.requires.no_overflow in
     let less = falls _ _ c.decreases c.if-levels-eq0.false in
     let deep = one_less _ c.requires.height in
@@ -292,7 +292,7 @@ check_below-requires-2 g t c =
     let first = spent_on r c.args.low (Some c.in-Some.node) ns _ true r.left_is closed (closed_on r ns closed k).0
     (ap is_some c.in-Some-check_below.is) c.check_below.ensures.steps in
     let good = c.child-right.ensures.link_target in
-    let node : g.N.Nodes.is_node c.args.nodes.now c.in-Some.node ≡ true = rw c.in-Some.is at c.requires.link in
+    let node : g.N.Nodes.is_node c.args.nodes c.in-Some.node ≡ true = rw c.in-Some.is at c.requires.link in
     let room = room_behind r c.check_below.new.visits.steps c.requires.no_overflow first in
     let less = falls _ _ c.decreases c.if-levels-eq0.false in
     let deep = one_less _ c.requires.height in
@@ -315,7 +315,7 @@ returns-in_default-check_below-2-clause-steps g t c = λ ns closed k.
 pub returns-then-before-behind-clause-complete : goal.returns-then-before-behind-clause-complete
 returns-then-before-behind-clause-complete g t c = λ u b k lower.
     let r = read g t (goal.at.returns-then-before-behind-clause-complete g t c).After-child-right in
-    let s = c.args.nodes.now in
+    let s = c.args.nodes in
     let h = g.N.Nodes.cells s in
     let node = c.in-Some.node in
     let before = found_on r r.left_is c.in-Some-check_below.ensures.sound in

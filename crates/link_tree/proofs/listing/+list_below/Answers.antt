@@ -9,8 +9,8 @@ use Rattle.link_tree.proofs.listing.+list_below.Given.{Over}
 
 -- the two trees below a node, once its links are read
 parts : (g : Over) (t : ℕ) (c : After-child-right g t) (u : Tree)
-    → IsLowSearchTree (g.N.Nodes.order c.args.nodes.now) (g.N.Nodes.cells c.args.nodes.now) c.args.link c.args.levels u
-    → AreParts (g.N.Nodes.order c.args.nodes.now) (g.N.Nodes.cells c.args.nodes.now) (λ _. false) c.in-Some.node
+    → IsLowSearchTree (g.N.Nodes.order c.args.nodes) (g.N.Nodes.cells c.args.nodes) c.args.link c.args.levels u
+    → AreParts (g.N.Nodes.order c.args.nodes) (g.N.Nodes.cells c.args.nodes) (λ _. false) c.in-Some.node
     c.args.levels c.child-left.result c.child-right.result u
 parts g t c u a =
     parts_sorted (λ _. false) c.in-Some.node c.args.levels c.args.link _ _ u (λ x y k h. absurd (false≢true h))

@@ -8,13 +8,13 @@ use Rattle.link_tree.proofs.listing.+list_from.Given.{Over}
 
 -- the two trees below a node once a link is read, and what stands before the probe
 parts : (g : Over) (t : ℕ) (c : After-child-right g t) (left_link : Option ℕ) (u : Tree)
-    → left_link ≡ (g.N.Nodes.cells c.args.nodes.now c.in-Some.node).left
-    → IsLowSearchTree (g.N.Nodes.order c.args.nodes.now) (g.N.Nodes.cells c.args.nodes.now) c.args.link c.args.levels u
-    → AreParts (g.N.Nodes.order c.args.nodes.now) (g.N.Nodes.cells c.args.nodes.now)
-    (g.N.Nodes.before c.args.nodes.now c.args.probe.now) c.in-Some.node c.args.levels left_link c.child-right.result u
+    → left_link ≡ (g.N.Nodes.cells c.args.nodes c.in-Some.node).left
+    → IsLowSearchTree (g.N.Nodes.order c.args.nodes) (g.N.Nodes.cells c.args.nodes) c.args.link c.args.levels u
+    → AreParts (g.N.Nodes.order c.args.nodes) (g.N.Nodes.cells c.args.nodes)
+    (g.N.Nodes.before c.args.nodes c.args.probe.now) c.in-Some.node c.args.levels left_link c.child-right.result u
 parts g t c left_link u left a =
-    parts_sorted (g.N.Nodes.before c.args.nodes.now c.args.probe.now) c.in-Some.node c.args.levels c.args.link
-    left_link _ u (g.met.N.Nodes.agrees c.args.nodes.now c.args.probe.now) c.in-Some.is left c.child-right.ensures.value
+    parts_sorted (g.N.Nodes.before c.args.nodes c.args.probe.now) c.in-Some.node c.args.levels c.args.link
+    left_link _ u (g.met.N.Nodes.agrees c.args.nodes c.args.probe.now) c.in-Some.is left c.child-right.ensures.value
     a
 
 few : (g : Over) (t : ℕ) (c : After-child-right g t) → c.child-right.new.self.steps ≤ c.args.visits.now.steps + 1
@@ -38,7 +38,7 @@ list_from-requires g t c κs within =
 pub returns-then-before-clause-listing : goal.returns-then-before-clause-listing
 returns-then-before-clause-listing g t c = λ u a.
     let r = (goal.at.returns-then-before-clause-listing g t c).After-child-right in
-    let test = g.N.Nodes.before c.args.nodes.now c.args.probe.now in
+    let test = g.N.Nodes.before c.args.nodes c.args.probe.now in
     let p = parts g t r _ u refl a in
     let this : test c.in-Some.node ≡ true = sym c.before_probe-before.ensures.value ∙ c.if-before.true in
     let listed = c.list_from.ensures.listing p.right p.right_below in
@@ -61,7 +61,7 @@ list_from-listed-requires g t c κs within =
 pub returns-then-listed-list-clause-listing : goal.returns-then-listed-list-clause-listing
 returns-then-listed-list-clause-listing g t c = λ u a.
     let r = (goal.at.returns-then-listed-list-clause-listing g t c).After-child-right in
-    let test = g.N.Nodes.before c.args.nodes.now c.args.probe.now in
+    let test = g.N.Nodes.before c.args.nodes c.args.probe.now in
     let p = parts g t r c.child-left.result u c.child-left.ensures.value a in
     let this : test c.in-Some.node ≡ false = sym c.before_probe-before.ensures.value ∙ c.if-before.false in
     let step = few g t r in
@@ -84,7 +84,7 @@ list_below-requires-clause-tree g t c =
 pub returns-clause-listing : goal.returns-clause-listing
 returns-clause-listing g t c = λ u a.
     let r = (goal.at.returns-clause-listing g t c).After-child-right in
-    let test = g.N.Nodes.before c.args.nodes.now c.args.probe.now in
+    let test = g.N.Nodes.before c.args.nodes c.args.probe.now in
     let p = parts g t r c.child-left.result u c.child-left.ensures.value a in
     let this : test c.in-Some.node ≡ false = sym c.before_probe-before.ensures.value ∙ c.if-before.false in
     let step = few g t r in

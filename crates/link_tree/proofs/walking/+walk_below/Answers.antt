@@ -11,17 +11,17 @@ use Rattle.link_tree.proofs.walking.+walk_below.Goals.{After-child-right}
 use Rattle.link_tree.proofs.walking.+walk_below.Given.{Over}
 
 ahead : (g : Over) (t : ℕ) (c : After-child-right g t) (u : Tree)
-    → IsAhead (g.N.Nodes.order c.args.nodes.now) (g.N.Nodes.cells c.args.nodes.now) c.args.link c.args.levels
+    → IsAhead (g.N.Nodes.order c.args.nodes) (g.N.Nodes.cells c.args.nodes) c.args.link c.args.levels
     c.args.visits.now.at u
-    → AreAhead (g.N.Nodes.order c.args.nodes.now) (g.N.Nodes.cells c.args.nodes.now) c.in-Some.node c.args.levels
+    → AreAhead (g.N.Nodes.order c.args.nodes) (g.N.Nodes.cells c.args.nodes) c.in-Some.node c.args.levels
     c.child-left.result c.child-right.result c.args.visits.now.at (nodes_of u)
 ahead g t c u a =
-    ahead_at (strict g.met.N.Nodes c.args.nodes.now) (g.N.Nodes.cells c.args.nodes.now) c.in-Some.node c.args.levels
+    ahead_at (strict g.met.N.Nodes c.args.nodes) (g.N.Nodes.cells c.args.nodes) c.in-Some.node c.args.levels
     c.args.link _ _ c.args.visits.now.at u c.in-Some.is c.child-left.ensures.value c.child-right.ensures.value a
 
 pub walk_below-requires : goal.walk_below-requires
 walk_below-requires g t c =
-    let s = c.args.nodes.now in
+    let s = c.args.nodes in
     let p = ahead g t (goal.at.walk_below-requires g t c).After-child-right c.requires.tree.0 c.requires.tree.1 in
     let tree : (u : Tree) × IsAhead (g.N.Nodes.order s) (g.N.Nodes.cells s) c.child-left.result (c.args.levels - 1)
     c.child-right.new.self.at u × (c.child-right.new.self.steps + length (nodes_of u) + 1 < 2 ^ 64) =
@@ -40,7 +40,7 @@ walk_below-requires-2 g t c =
     let room = c.requires.tree.2 in
     let size = p.size in
     let positive = p.positive in
-    let s = c.args.nodes.now in
+    let s = c.args.nodes in
     let good = c.child-right.ensures.link_target in
     let tree : (u : Tree) × IsAhead (g.N.Nodes.order s) (g.N.Nodes.cells s) c.child-right.result (c.args.levels - 1)
     c.walk_below.new.visits.at u × (c.walk_below.new.visits.steps + length (nodes_of u) + 1 < 2 ^ 64) =

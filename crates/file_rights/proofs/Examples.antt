@@ -1,9 +1,7 @@
 -- Rights by example.
-use Rattle.std.proofs.Common.{◌≡◌, ℕ, ◌+◌, ◌*◌, List, [], ◌∷◌, ◌++◌, Option, Some, None, Bool, true, false, refl}
+use Rattle.std.proofs.Common.{◌≡◌, ℕ, ◌+◌, ◌*◌, List, [], ◌∷◌, ◌++◌, Some, None, Bool, true, false, refl}
 use Rattle.file_rights.specs.declared.access_lists.ListEntry.{ListEntry}
 use Rattle.file_rights.specs.declared.log_rights.Ownership.{Ownership}
-use Rattle.file_rights.specs.declared.narrowing.NewRights.{NewRights}
-use Rattle.file_rights.specs.declared.narrowing.AccessList.{AccessList}
 use Rattle.file_rights.specs.declared.narrowing.AccessList.TheVariants.{Absent, Unreadable}
 use Rattle.file_rights.specs.Rights.{rights_of, to_read, to_write}
 use Rattle.file_rights.specs.AccessLists.{list_classes, list_of}

@@ -1,10 +1,8 @@
 -- Whether a log beside a file counts, and the rights that a log gets.
 use Rattle.std.specs.Prelude.{◌≡◌, ◌≢◌, ◌⊎◌, ◌↔◌, ◌<◌, ℕ, Bool, true, false, ◌&&◌, ◌||◌, not, ◌==◌, None}
-use Rattle.file_rights.specs.declared.classes.Classes.{Classes}
 use Rattle.file_rights.specs.declared.log_rights.Ownership.{Ownership}
 use Rattle.file_rights.specs.declared.rights.Rights.{Rights}
 use Rattle.file_rights.specs.Modes.{classes_of, mode_of}
-use Rattle.file_rights.specs.Rights.{to_read, to_write, to_execute}
 use Rattle.file_rights.specs.Access.{User, OwnedFile, MayRead, MayWrite, MayExecute}
 
 -- a file of this owner, group and mode, without an access list

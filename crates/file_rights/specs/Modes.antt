@@ -1,7 +1,6 @@
 -- The mode of a file: three bits for each of owner, group and others, and above them set-user-ID, set-group-ID, sticky.
-use Rattle.std.specs.Prelude.{◌≡◌, ℕ, ◌+◌, ◌*◌, ◌/◌, ◌%◌}
+use Rattle.std.specs.Prelude.{ℕ, ◌+◌, ◌*◌, ◌/◌}
 use Rattle.file_rights.specs.declared.classes.Classes.{Classes}
-use Rattle.file_rights.specs.declared.rights.Rights.{Rights}
 use Rattle.file_rights.specs.Rights.{rights_of, bits_of}
 
 -- what the three classes of a mode may do

@@ -1,13 +1,12 @@
 -- The rights of a new file that takes the place of an old one.
-use Rattle.std.specs.Prelude.{◌≡◌, ◌≢◌, ℕ, ◌+◌, ◌*◌, ◌/◌, ◌%◌, Bool, true, false, ◌&&◌, ◌||◌, if◌then◌else◌, List}
+use Rattle.std.specs.Prelude.{◌≡◌, ℕ, ◌+◌, ◌*◌, ◌/◌, ◌%◌, Bool, true, false, ◌&&◌, ◌||◌, if◌then◌else◌, List}
 use Rattle.std.specs.Prelude.{Option, Some, None}
 use Rattle.file_rights.specs.declared.access_lists.ListEntry.{ListEntry}
 use Rattle.file_rights.specs.declared.classes.Classes.{Classes}
 use Rattle.file_rights.specs.declared.narrowing.AccessList.{AccessList}
 use Rattle.file_rights.specs.declared.narrowing.AccessList.TheVariants.{Absent, Unreadable, Bytes}
 use Rattle.file_rights.specs.declared.narrowing.NewRights.{NewRights}
-use Rattle.file_rights.specs.declared.rights.Rights.{Rights}
-use Rattle.file_rights.specs.Rights.{all_rights, no_rights, common, covers, rights_of}
+use Rattle.file_rights.specs.Rights.{no_rights, common, covers, rights_of}
 use Rattle.file_rights.specs.Modes.{classes_of, mode_of}
 use Rattle.file_rights.specs.AccessLists.{first_rights, list_classes, list_of, mask_of, or_else}
 use Rattle.file_rights.specs.Access.{OwnedFile, NeverWidens}

@@ -1,7 +1,6 @@
 -- What the entries of an access list grant a user.
-use Rattle.std.proofs.Common.{◌≡◌, ◌≢◌, ℕ, refl, sym, ◌∙◌, ap, subst, List, [], ◌∷◌, Option, Some, None}
-use Rattle.std.proofs.Common.{Bool, true, false, ◌==◌, cond, ◌&&◌, ◌||◌, inl, inr}
-use Rattle.std.proofs.lemmas.Bool.{cases_Bool, ne_eqb}
+use Rattle.std.proofs.Common.{◌≡◌, ℕ, refl, sym, ◌∙◌, ap, List, [], ◌∷◌, Option, Some, None}
+use Rattle.std.proofs.Common.{Bool, true, false, ◌==◌, cond, ◌&&◌, ◌||◌}
 use Rattle.file_rights.specs.declared.access_lists.ListEntry.{ListEntry}
 use Rattle.file_rights.specs.declared.rights.Rights.{Rights}
 use Rattle.file_rights.specs.Rights.{no_rights, common, covers}

@@ -1,7 +1,6 @@
 -- Entries of an access list in its bytes.
-use Rattle.std.proofs.Common.{◌≡◌, ◌≤◌, ◌+◌, ◌-◌, ◌*◌, ℕ, sym, ap, arith, List, [], ◌∷◌, length, take, drop, get_or}
+use Rattle.std.proofs.Common.{◌≡◌, ◌≤◌, ◌+◌, ◌-◌, ◌*◌, ℕ, sym, arith, List, ◌∷◌, length, take, drop, get_or}
 use Rattle.std.proofs.lemmas.List.{take_rest}
-use Rattle.file_rights.specs.declared.access_lists.ListEntry.{ListEntry}
 use Rattle.file_rights.specs.declared.rights.Rights.{Rights}
 use Rattle.file_rights.specs.Rights.{rights_of}
 use Rattle.file_rights.specs.AccessLists.{entries_of}

@@ -1,6 +1,6 @@
 -- Rights and classes are read back from their bits.
-use Rattle.std.proofs.Common.{◌≡◌, ◌<◌, ◌≤◌, ◌+◌, ◌*◌, ◌/◌, ◌%◌, inl, inr, ℕ, refl, sym, ◌∙◌, ap, arith}
-use Rattle.std.proofs.Common.{Bool, true, false, ◌==◌, cond}
+use Rattle.std.proofs.Common.{◌≡◌, ◌<◌, ◌+◌, ◌*◌, ◌/◌, ◌%◌, inl, inr, ℕ, sym, ◌∙◌, ap, arith}
+use Rattle.std.proofs.Common.{Bool, true, false, ◌==◌}
 use Rattle.std.proofs.lemmas.Bool.{cases_eq, eq-eqb, ne_eqb}
 use Rattle.file_rights.specs.declared.classes.Classes.{Classes}
 use Rattle.file_rights.specs.declared.rights.Rights.{Rights}

@@ -1,5 +1,5 @@
 -- Who may write a log, by the bits of two modes.
-use Rattle.std.proofs.Common.{◌≡◌, ◌≢◌, ◌⊎◌, ◌↔◌, ◌<◌, ◌≤◌, ◌+◌, inl, inr, ℕ, suc, refl, sym, ◌∙◌, ap, arith}
+use Rattle.std.proofs.Common.{◌≡◌, ◌≢◌, ◌↔◌, ◌+◌, inl, inr, ℕ, suc, refl, sym, ◌∙◌, ap, arith}
 use Rattle.std.proofs.Common.{Bool, true, false, ◌==◌, if◌then◌else◌, cond, not, ◌&&◌, ◌||◌}
 use Rattle.std.proofs.lemmas.Bool.{eq-eqb, eqb-true, ne_eqb, and_parts, and_from, or_cases, cases_Bool}
 use Rattle.file_rights.specs.declared.log_rights.Ownership.{Ownership}

@@ -1,12 +1,11 @@
 -- A log's mode grants to read and to write what the file's does.
-use Rattle.std.proofs.Common.{◌≡◌, ◌↔◌, ◌+◌, ◌*◌, ℕ, refl, sym, ◌∙◌, ap, arith}
+use Rattle.std.proofs.Common.{◌≡◌, ℕ, sym, ◌∙◌, ap, arith}
 use Rattle.std.proofs.Common.{Bool, true, false, ◌==◌, cond}
 use Rattle.file_rights.specs.declared.classes.Classes.{Classes}
 use Rattle.file_rights.specs.declared.rights.Rights.{Rights}
 use Rattle.file_rights.specs.Modes.{classes_of}
 use Rattle.file_rights.specs.Rights.{covers, to_read, to_write, to_execute}
-use Rattle.file_rights.specs.Access.{User, may_access}
-use Rattle.file_rights.specs.LogRights.{file_of, log_mode, unexecuted, GrantsAsMode}
+use Rattle.file_rights.specs.LogRights.{log_mode, unexecuted, GrantsAsMode}
 use Rattle.file_rights.proofs.classes.Bits.{classes_back, mode_below}
 
 abbrev of_class : Bool → Bool → Classes → Rights → Bool

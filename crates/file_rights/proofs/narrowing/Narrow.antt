@@ -1,5 +1,5 @@
 -- A new file grants nobody but its owner more than the old one.
-use Rattle.std.proofs.Common.{◌≡◌, ◌≢◌, ◌+◌, ◌*◌, ℕ, refl, sym, ◌∙◌, ap, List, Option, Some, None, inl, inr}
+use Rattle.std.proofs.Common.{◌≡◌, ◌≢◌, ℕ, sym, ◌∙◌, ap, List, Option, Some, None, inl, inr}
 use Rattle.std.proofs.Common.{Bool, true, false, ◌==◌, cond, ◌&&◌, ◌||◌}
 use Rattle.std.proofs.lemmas.Bool.{and_parts, cases_Bool, cases_eq, eqb-true, ne_eqb}
 use Rattle.file_rights.specs.declared.access_lists.ListEntry.{ListEntry}
@@ -8,7 +8,7 @@ use Rattle.file_rights.specs.declared.narrowing.AccessList.{AccessList}
 use Rattle.file_rights.specs.declared.narrowing.AccessList.TheVariants.{Absent, Unreadable, Bytes}
 use Rattle.file_rights.specs.declared.rights.Rights.{Rights}
 use Rattle.file_rights.specs.Rights.{no_rights, covers}
-use Rattle.file_rights.specs.Modes.{classes_of, mode_of}
+use Rattle.file_rights.specs.Modes.{classes_of}
 use Rattle.file_rights.specs.AccessLists.{first_rights, list_of, mask_of, or_else}
 use Rattle.file_rights.specs.Access.{User, OwnedFile, may_access, may_by, may_by_entries, named_rights, NeverWidens}
 use Rattle.file_rights.specs.Narrowing.{keeps_list, keeps_listed, new_classes, new_rights, old_classes, sets_list}

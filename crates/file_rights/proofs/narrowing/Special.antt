@@ -1,8 +1,7 @@
 -- The bits above the classes, and what is kept where owner and group are the same.
-use Rattle.std.proofs.Common.{◌≡◌, ◌<◌, ◌+◌, ◌*◌, ◌/◌, ◌%◌, ℕ, refl, ◌∙◌, ap, arith, List, Option, Some, None}
+use Rattle.std.proofs.Common.{◌≡◌, ◌<◌, ◌+◌, ◌*◌, ◌/◌, ◌%◌, ℕ, refl, ap, arith, List, Option, Some, None}
 use Rattle.std.proofs.Common.{Bool, true, false}
 use Rattle.file_rights.specs.declared.access_lists.ListEntry.{ListEntry}
-use Rattle.file_rights.specs.declared.classes.Classes.{Classes}
 use Rattle.file_rights.specs.declared.narrowing.AccessList.{AccessList}
 use Rattle.file_rights.specs.declared.narrowing.AccessList.TheVariants.{Absent, Unreadable, Bytes}
 use Rattle.file_rights.specs.declared.narrowing.NewRights.{NewRights}

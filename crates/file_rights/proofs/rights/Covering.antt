@@ -2,7 +2,7 @@
 use Rattle.std.proofs.Common.{◌≡◌, refl, Bool, true, false, not, ◌&&◌, ◌||◌}
 use Rattle.std.proofs.lemmas.Bool.{and_parts, and_from}
 use Rattle.file_rights.specs.declared.rights.Rights.{Rights}
-use Rattle.file_rights.specs.Rights.{all_rights, no_rights, common, covers}
+use Rattle.file_rights.specs.Rights.{no_rights, common, covers}
 
 -- ---- a bit
 

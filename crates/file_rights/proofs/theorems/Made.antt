@@ -1,5 +1,5 @@
 -- Logs that are made with the rights of their file.
-use Rattle.std.proofs.Common.{◌≡◌, inl, ℕ, refl, sym, ◌∙◌, None, true}
+use Rattle.std.proofs.Common.{◌≡◌, inl, refl, sym, ◌∙◌, None, true}
 use Rattle.file_rights.specs.declared.narrowing.AccessList.TheVariants.{Absent}
 use Rattle.file_rights.specs.Rights.{to_write}
 use Rattle.file_rights.specs.Access.{may_access}

@@ -1,6 +1,6 @@
 -- No other mode that never widens is wider.
-use Rattle.std.proofs.Common.{◌≡◌, ◌≢◌, ◌+◌, ◌*◌, ℕ, refl, sym, ◌∙◌, ap, arith, Option, Some, None}
-use Rattle.std.proofs.Common.{Bool, true, false, ◌==◌, if◌then◌else◌, cond}
+use Rattle.std.proofs.Common.{◌≡◌, ◌≢◌, ℕ, refl, ◌∙◌, ap, arith, None}
+use Rattle.std.proofs.Common.{Bool, true, false, ◌==◌, if◌then◌else◌}
 use Rattle.file_rights.specs.declared.classes.Classes.{Classes}
 use Rattle.file_rights.specs.declared.narrowing.AccessList.TheVariants.{Absent}
 use Rattle.file_rights.specs.declared.rights.Rights.{Rights}
@@ -9,7 +9,7 @@ use Rattle.file_rights.specs.Modes.{classes_of}
 use Rattle.file_rights.specs.Access.{User, OwnedFile, may_access}
 use Rattle.file_rights.specs.Narrowing.{new_classes, new_rights, special_bits, without_group, without_owner}
 use Rattle.file_rights.specs.Narrowing.{ModeNarrows}
-use Rattle.file_rights.specs.Laws.{CoversMode, NewModeIsWidest}
+use Rattle.file_rights.specs.Laws.{NewModeIsWidest}
 use Rattle.file_rights.proofs.classes.Bits.{classes_back}
 use Rattle.file_rights.proofs.rights.Covering.{covers_both, covers_self}
 

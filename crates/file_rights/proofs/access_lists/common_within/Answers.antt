@@ -1,6 +1,5 @@
-use Rattle.std.proofs.Common.{◌≡◌, sym, ◌∙◌, ap, cond, List}
+use Rattle.std.proofs.Common.{◌≡◌, sym, ◌∙◌, ap, cond}
 use Rattle.std.proofs.lemmas.Bool.{eq-eqb}
-use Rattle.file_rights.specs.declared.access_lists.ListEntry.{ListEntry}
 use Rattle.file_rights.specs.Rights.{common}
 use Rattle.file_rights.specs.AccessLists.{common_within, entries_of}
 use Rattle.file_rights.proofs.rights.Covering.{common_assoc}

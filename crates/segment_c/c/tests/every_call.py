@@ -2295,6 +2295,17 @@ def small_rules():
             fails(f"{made!r} takes an attribute")
     s.growing, s.encoding = True, None
     s.growing, s.encoding = False, "utf-8"
+    # a notebook shows names, kinds and values
+    shown = create(65536)
+    shown["n"], shown["<b>"], shown["v"] = 5, "a & b", range(1000)
+    shown.construct("i64[2]", "two", [3, 4])
+    table = shown._repr_html_()
+    same([part in table for part in ("<td>n</td><td>i64</td><td>5</td>", "<td>&lt;b&gt;</td><td>string</td>",
+                                     "a &amp; b", "1000 in all", "<td>i64[2]</td><td>[3, 4]</td>")], [True] * 5)
+    shown.group("g/").update({f"{number}": number for number in range(200)})
+    same((shown.group("g/")._repr_html_().count("<tr>"), shown.group("none")._repr_html_().count("<tr>")), (101, 0))
+    shown.close()
+    same(shown._repr_html_(), "&lt;Segment, closed&gt;")
     names = [name for name in dir(zaluxhoni) if not name.startswith("__")]
     same(sorted(names), sorted(zaluxhoni.__all__))
     # ranges of a map

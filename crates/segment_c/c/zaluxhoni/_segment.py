@@ -1223,7 +1223,8 @@ class Transaction(_library.Block):
             self._keep(before)
         elif (before.copy.at or before.kept) and is_open and not self._was_refused:
             self._undo(before)
-        if not segment._keeps_step(before):
+        if (before.copy.at or before.kept) and not segment._keeps_step(before):
+            # neither kept nor undone by the library
             zx.zx_file_leave(segment._file, before)
         segment._end_step(before)
         del self._copies[depth - 1:]

@@ -35,14 +35,30 @@ static void leave_copy(const struct mapping *old, uint8_t *copy, zx_memory *left
     *left = (zx_memory){ old->at, old->len };
 }
 
-/* Maps the file privately once more, with the pages of the old mapping that are the process' own. The old one stays. */
-static bool map_elsewhere(struct zx_held_file *held, const struct mapping *old) {
+/* Maps the file privately once more. The old mapping stays, and is that of the file again if this fails. */
+static bool map_again(struct zx_held_file *held) {
     struct stat found;
+    zx_segment *mapped = held->mapped;
+    uint8_t *at = held->at;
+    uint64_t len = held->len, room = held->room;
+    bool is_mapped = fstat(held->file, &found) == 0 &&
+                     (room ? map_private(held, (uint64_t)found.st_size, len, room)
+                           : map_listed(held, len, PROT_READ | PROT_WRITE, MAP_PRIVATE));
+    if (is_mapped) return true;
+    pthread_mutex_lock(&guard);
+    held->mapped = mapped;
+    held->at = at;
+    held->len = len;
+    held->room = room;
+    pthread_mutex_unlock(&guard);
+    return false;
+}
+
+/* Moves the mapping to other addresses: a new one gets the pages of the old one that are the process' own. */
+static bool map_elsewhere(struct zx_held_file *held, const struct mapping *old) {
     uint64_t pages = old->len / PAGE;
     uint8_t *own = malloc(pages);
-    bool is_mapped = own && fstat(held->file, &found) == 0 &&
-                     (held->room ? map_private(held, (uint64_t)found.st_size, held->len, held->room)
-                                 : map_listed(held, held->len, PROT_READ | PROT_WRITE, MAP_PRIVATE));
+    bool is_mapped = own && map_again(held);
     if (is_mapped) {
         (void)find_own(old->at, pages, own);
         for (uint64_t page = 0; (page = next_noted(own, pages, page)) < pages; page++)

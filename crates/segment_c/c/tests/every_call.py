@@ -60,9 +60,10 @@ def path_of(name):
 
 
 def new(name):
-    """The path of a file that is not there."""
-    if os.path.lexists(path_of(name)):
-        os.unlink(path_of(name))
+    """The path of a file that is not there, and has no log."""
+    for path in (path_of(name), f"{path_of(name)}-log"):
+        if os.path.lexists(path):
+            os.unlink(path)
     return path_of(name)
 
 
@@ -1691,6 +1692,53 @@ def files_that_are_durable():
     zaluxhoni.open(path, "w", durable=True).close()
 
 
+def logs_that_are_in_the_way():
+    """A file that is no log stays, and is named where a commit needs its name. So is a log whose file is gone."""
+    path = new("way")
+    log = f"{path}-log"
+    with open(log, "w") as file:
+        file.write("somebody's notes")
+
+    def refused(kind, call):
+        try:
+            call()
+        except zaluxhoni.FileError as error:
+            same((type(error), error.filename, error.errno, repr(log) in str(error)), (kind, log, errno.EEXIST, True))
+        else:
+            fails(f"no {kind.__name__}")
+
+    with zaluxhoni.open(path, "x", size=1024) as s:
+        s["n"] = 1
+    for mode, named in (("w", {}), ("w", {"mapped": True}), ("r", {}), ("p", {}), ("r", {"mapped": True})):
+        with zaluxhoni.open(path, mode, **named) as s:
+            same(s["n"], 1)
+    s = zaluxhoni.open(path, "w", durable=True)
+    s["n"] = 2
+
+    def step():
+        with s.transaction():
+            s["n"] = 3
+
+    for call in (s.commit, s.flush, s.save, s.close, step):
+        refused(zaluxhoni.FileLogInTheWayError, call)
+        same((s.is_open, s["n"]), (True, 2))
+    with open(log) as file:
+        same(file.read(), "somebody's notes")
+    os.unlink(log)
+    step()
+    s.discard()
+    # the file is moved, and its log is not
+    os.rename(path, f"{path}.old")
+    for call in (lambda: zaluxhoni.open(path), lambda: zaluxhoni.open(path, "x", durable=True),
+                 lambda: zaluxhoni.open(path, "x", mapped=True), lambda: create(1024).save_as(path)):
+        refused(zaluxhoni.FileLogLeftError, call)
+        same(os.path.exists(path), False)
+    os.rename(f"{path}.old", path)
+    with zaluxhoni.open(path, "w") as s:
+        same(s["n"], 3)
+    same(os.path.exists(log), False)
+
+
 def files_that_fail():
     path = path_of("stranger")
     with open(path, "wb") as file:
@@ -2295,6 +2343,17 @@ def small_rules():
             fails(f"{made!r} takes an attribute")
     s.growing, s.encoding = True, None
     s.growing, s.encoding = False, "utf-8"
+    # a notebook shows names, kinds and values
+    shown = create(65536)
+    shown["n"], shown["<b>"], shown["v"] = 5, "a & b", range(1000)
+    shown.construct("i64[2]", "two", [3, 4])
+    table = shown._repr_html_()
+    same([part in table for part in ("<td>n</td><td>i64</td><td>5</td>", "<td>&lt;b&gt;</td><td>string</td>",
+                                     "a &amp; b", "1000 in all", "<td>i64[2]</td><td>[3, 4]</td>")], [True] * 5)
+    shown.group("g/").update({f"{number}": number for number in range(200)})
+    same((shown.group("g/")._repr_html_().count("<tr>"), shown.group("none")._repr_html_().count("<tr>")), (101, 0))
+    shown.close()
+    same(shown._repr_html_(), "&lt;Segment, closed&gt;")
     names = [name for name in dir(zaluxhoni) if not name.startswith("__")]
     same(sorted(names), sorted(zaluxhoni.__all__))
     # ranges of a map
@@ -2662,12 +2721,12 @@ for case in (an_anonymous_object, names, index_and_object_do_not_both_fit, array
              undone_beside_views, what_cannot_be_undone, saves_in_a_transaction, size_and_region, calls_of_c,
              what_is_refused, what_shows_a_class, one_thread, files, files_that_are_mapped, files_that_are_durable,
              what_is_refused_by_name, a_process_that_forks, paths_of_each_type, a_relative_path, files_that_fail,
-             files_that_fail_to_grow, what_is_read_again, what_is_not_closed, the_end_of_the_process,
-             the_end_of_a_block, errors_are_copied, names_of_version_0_9, none_is_no_name, records_of_other_packages,
-             records_as_list_are_one,
-             tasks_with_transactions, numbers_beyond_all, small_rules, no_space_says_more, what_messages_say,
-             a_wait_for_the_writer, the_module_as_program, segments_grow, storage_that_cannot_double,
-             texts_that_stay_bytes, records_of_dataclasses, threads_that_shorten, large_pages):
+             files_that_fail_to_grow, logs_that_are_in_the_way, what_is_read_again, what_is_not_closed,
+             the_end_of_the_process, the_end_of_a_block, errors_are_copied, names_of_version_0_9, none_is_no_name,
+             records_of_other_packages, records_as_list_are_one, tasks_with_transactions, numbers_beyond_all,
+             small_rules, no_space_says_more, what_messages_say, a_wait_for_the_writer, the_module_as_program,
+             segments_grow, storage_that_cannot_double, texts_that_stay_bytes, records_of_dataclasses,
+             threads_that_shorten, large_pages):
     try:
         case()
     except Exception as error:

@@ -11,10 +11,10 @@ The end of the block saves the file, whole or not at all. If the block ends by a
 A name finds an object. shop["prices"] is the value of one number, bool or text; any other object is used as a list
 (Vector, Strings, Array) or as a dict (Map). Objects look their name up in each call, so they stay valid as long as the
 segment is open. A refused call raises an Error, of the class with the refusal's name, and changes nothing; a method
-that makes several calls may be done in part, as docs/PYTHON.md says.
+that makes several calls may be done in part, as the guide says.
 
-Only the thread that opened a segment uses it, unless it was opened with check_same_thread=False. The guide is
-docs/PYTHON.md."""
+Only the thread that opened a segment uses it, unless it was opened with check_same_thread=False. The guide is the page
+PYTHON.md, which packages put into share/doc/zaluxhoni."""
 from __future__ import annotations
 
 import ctypes
@@ -130,8 +130,8 @@ def open(path: Any, mode: str = "c", *, size: int = 65536, grow: bool = True, en
     file belongs to this segment until it is closed: anyone else gets FileInUseError, at once or after `timeout` seconds
     of waiting. With check_same_thread=False each thread may use the segment, and each call is alone on it. With
     `mapped` the segment lies in the file: opening copies nothing, each change is in the file at once, and `discard`
-    reverts none; docs/C.md says what that costs. With `durable` changes are private until `commit`, or the end of a
-    transaction, puts them into the log beside the file: whenever the process is killed or the power fails, the next
+    reverts none; the guide C.md says what that costs. With `durable` changes are private until `commit`, or the end of
+    a transaction, puts them into the log beside the file: whenever the process is killed or the power fails, the next
     opening finds the last commit that was done, or the one under way; the modes "r" and "p" find what was committed
     without it. FileError, if the file is refused; BadImageError, BadModeError, BadSizeError."""
     if not isinstance(mode, str) or mode not in FILE_MODES:

@@ -5,6 +5,7 @@ import atexit
 import codecs
 import collections.abc
 import ctypes
+import html
 import inspect
 import os
 import struct
@@ -29,7 +30,7 @@ from ._values import (KINDS, MOST, TEXTS, Key, MapKind, ScalarKind, Texts, Vecto
 
 _ABSENT, _OUT_OF_RANGE, _CLOSED = 10, 8, 16
 _NO_OBJECT = (6, 17, 18)
-_AHEAD = 1024
+_AHEAD, _SHOWN = 1024, 100
 _NOBODY = 2**64 - 1
 """The number of no thread."""
 MODES = {"w": 0, "r": 1, "p": 2}
@@ -410,6 +411,20 @@ class _Named(_Pairs, MutableMapping[str, Any]):
 
     def _ipython_key_completions_(self) -> List[str]:
         return list(self)
+
+    def _repr_html_(self) -> str:
+        """Returns the first names as a table, for a notebook."""
+        if not self._segment.is_open:
+            return html.escape(repr(self))
+        lines = []
+        for number, (name, kind, count, _, value) in enumerate(self._rows()):
+            if number == _SHOWN:
+                lines.append("<tr><td>...</td></tr>")
+                break
+            front = self._object(name, kind)._front() if value is None else shown(value)
+            cells = (name, KINDS[kind] if count == 1 else f"{KINDS[kind]}[{count}]", front)
+            lines.append("<tr>" + "".join(f"<td>{html.escape(cell)}</td>" for cell in cells) + "</tr>")
+        return f"{html.escape(repr(self))}<table>{''.join(lines)}</table>"
 
     # -- lists
 
@@ -1208,7 +1223,8 @@ class Transaction(_library.Block):
             self._keep(before)
         elif (before.copy.at or before.kept) and is_open and not self._was_refused:
             self._undo(before)
-        if not segment._keeps_step(before):
+        if (before.copy.at or before.kept) and not segment._keeps_step(before):
+            # neither kept nor undone by the library
             zx.zx_file_leave(segment._file, before)
         segment._end_step(before)
         del self._copies[depth - 1:]

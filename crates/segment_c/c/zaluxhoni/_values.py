@@ -49,7 +49,7 @@ def is_scalar(code: int) -> bool:
 
 
 def code_of(kind: str) -> int:
-    """Returns the code of a kind as docs/LANGUAGE.md spells it, such as "map<i32,i64>"."""
+    """Returns the code of a kind as scripts spell it, such as "map<i32,i64>"."""
     code = _codes.get(kind.replace(" ", "")) if isinstance(kind, str) else None
     if code is None:
         raise BadKindError(f"no kind is {shown(kind)}{_way_for_kind(kind)}")

@@ -103,7 +103,8 @@ fn has_record(head: &[u8], len: u64) -> bool
     head[0] == 1 && number_of(&head[GATE_LEN..]) <= len - 4104
 }
 
-/// Tells what a file under the name of a log is, by its first 4144 bytes, or all if it has fewer, and by its length.
+/// Tells what a file under the name of a log is, by its first 4144 bytes, or all if it has fewer, and by its length. If
+/// some of these bytes are not given, the answer is `Foreign`.
 pub fn log_kind(head: &[u8], len: u64) -> LogKind
     ensures { TellsKind head.now len result }
 {

@@ -7,7 +7,7 @@ use Rattle.std.proofs.Math.ListN.{drop_of_length-le}
 use Rattle.std.proofs.lemmas.Bool.Decides.{leb_tells}
 use Rattle.std.proofs.lemmas.List.{append-nil, drop-drop, drop-replicate, drop-take, drop_at, ext_get_or, get_or-drop}
 use Rattle.std.proofs.lemmas.List.{get_or-take, length-take, length-take-le, take-take}
-use Rattle.segment_log.specs.Crashes.{LoggedFile, TornWrite, TornFrom, WritesAt}
+use Rattle.segment_log.specs.Crashes.{LoggedFile, TornFrom, WritesAt}
 use Rattle.segment_log.specs.Events.{Wrote, leaves, seen_after, seen_in_the_end}
 use Rattle.segment_log.specs.Laws.{CommitOutcome, Unwritten, Unsynced, Unmarked, Unsure, Committed, commit_events}
 use Rattle.segment_log.specs.LogKinds.{HasMagic}

@@ -597,3 +597,12 @@ def test_a_link_in_a_folder_of_any_name(made):
     assert number("a.seg") == 9 and os.path.islink("link") and not os.path.exists("a.seg-log")
     assert segment("run", "link", "--commit", "-c", "set n 0 8").returncode == 0
     assert number("link") == 8 and os.path.exists("a.seg-log")
+
+
+@pytest.mark.parametrize("words", [["create", "b.seg", "4096", "--replace"], ["run", "a.seg", "--replace", "-c", "set n 0 9"]], ids=" ".join)
+def test_a_hidden_file_that_can_not_be_locked_is_removed(made, words):
+    def before(call, names):
+        return errno.ENOLCK if call == "flock" and names[0].startswith(".zaluxhoni-") else None
+
+    assert Traced(words, before).status == 3
+    assert hidden() == [] and number() == 1

@@ -1,7 +1,10 @@
 -- What an error of the system says of a file.
-use Rattle.std.specs.Prelude.{◌==◌, ◌-◌, ℕ, Bool, true, List, Option, Some, None, length, slice_get, if◌then◌else◌}
+use Rattle.std.specs.Prelude.{◌==◌, ◌-◌, ℕ, Bool, true, false, List, Option, Some, None, length, slice_get}
+use Rattle.std.specs.Prelude.{if◌then◌else◌}
 use Rattle.std_io.specs.declared.io.kind.ErrorKind.{ErrorKind}
 use Rattle.std_io.specs.declared.io.kind.ErrorKind.TheVariants.{AlreadyExists, NotFound, PermissionDenied, IsADirectory}
+use Rattle.std_io.specs.declared.io.kind.ErrorKind.TheVariants.{InvalidFilename, InvalidInput, NotADirectory}
+use Rattle.std_io.specs.declared.io.kind.ErrorKind.TheVariants.{Unsupported}
 use Rattle.segment_disk.specs.declared.presence.FileProblem.{FileProblem}
 use Rattle.segment_disk.specs.declared.presence.FileProblem.TheVariants.{Missing, NoParentFolder, Unnamed, Folder}
 use Rattle.segment_disk.specs.declared.presence.FileProblem.TheVariants.{Denied, Exists}
@@ -32,3 +35,16 @@ problem_where unnamed trouble = trouble
 -- what an error's kind says of a file to be made
 abbrev pub creation_problem : ErrorKind → List ℕ → Option FileProblem
 creation_problem kind path = problem_where (names_none path) (problem_of kind)
+
+-- nothing has a name: the file is not there, what is above it is no folder, or the name is too long
+abbrev pub names_nothing : ErrorKind → Bool
+names_nothing NotFound = true
+names_nothing NotADirectory = true
+names_nothing InvalidFilename = true
+names_nothing _ = false
+
+-- a file can't be locked where it is: the system says so, or does not know the call
+abbrev pub locks_nothing : ErrorKind → Bool
+locks_nothing Unsupported = true
+locks_nothing InvalidInput = true
+locks_nothing _ = false

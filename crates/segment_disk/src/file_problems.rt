@@ -1,6 +1,7 @@
 //! What an error of the system says of a file.
 ghost use Rattle.std.specs.Prelude.{◌≡◌};
-ghost use Rattle.segment_disk.specs.FileProblems.{creation_problem, names_none, problem_of};
+ghost use Rattle.segment_disk.specs.FileProblems.{creation_problem, locks_nothing, names_none, names_nothing};
+ghost use Rattle.segment_disk.specs.FileProblems.{problem_of};
 
 use crate::presence::FileProblem;
 use std::io::ErrorKind;
@@ -40,4 +41,21 @@ pub(crate) fn creation_problem(kind: ErrorKind, path: &str) -> Option<FileProble
         Some(FileProblem::Missing) => Some(FileProblem::NoParentFolder),
         _ => trouble,
     }
+}
+
+/// Returns true if an error says that nothing has a name. Each other one says that the system does not tell.
+pub(crate) fn names_nothing(kind: ErrorKind) -> bool
+    ensures { result ≡ names_nothing kind }
+{
+    matches!(
+        kind,
+        ErrorKind::NotFound | ErrorKind::NotADirectory | ErrorKind::InvalidFilename
+    )
+}
+
+/// Returns true if an error of a lock says that the file can't be locked where it is. Each other one is a failure.
+pub(crate) fn locks_nothing(kind: ErrorKind) -> bool
+    ensures { result ≡ locks_nothing kind }
+{
+    matches!(kind, ErrorKind::Unsupported | ErrorKind::InvalidInput)
 }

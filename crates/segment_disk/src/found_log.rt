@@ -1,5 +1,6 @@
 //! What stands beside the file of a segment under the name of its log.
 
+use crate::file_problems::names_nothing;
 use crate::locks::{Identity, open_to_write, remove_named, sync_file};
 use crate::paths::{folder_of, real_path};
 use file_rights::{Ownership, log_counts};
@@ -29,14 +30,6 @@ pub(crate) enum FoundLog {
     Empty(File),
     /// A log with a record at least.
     Records(File),
-}
-
-/// Returns true if an error says that nothing has a name.
-fn names_nothing(kind: ErrorKind) -> bool {
-    matches!(
-        kind,
-        ErrorKind::NotFound | ErrorKind::NotADirectory | ErrorKind::InvalidFilename
-    )
 }
 
 /// Returns whose a file is, and its mode.

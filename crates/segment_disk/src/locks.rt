@@ -3,6 +3,7 @@ ghost use Rattle.std.specs.Prelude.{◌≡◌, ◌≢◌, Some, false};
 ghost use Rattle.std.specs.Bool.{OnTrue};
 ghost use Rattle.segment_disk.specs.declared.locks.Identity.{Identity};
 
+use crate::file_problems::locks_nothing;
 use std::fs::{self, File, Metadata, OpenOptions, TryLockError};
 use std::io::{self, ErrorKind, Read};
 use std::os::unix::fs::MetadataExt;
@@ -163,11 +164,6 @@ pub(crate) fn sync_file(file: &File) -> bool {
     }
 }
 
-/// Returns true if an error says that the system knows no such call of this file.
-fn is_unsupported(kind: ErrorKind) -> bool {
-    matches!(kind, ErrorKind::Unsupported | ErrorKind::InvalidInput)
-}
-
 /// What came of a request for a lock.
 #[derive(Clone, Copy, PartialEq, Eq)]
 enum LockAnswer {
@@ -189,7 +185,7 @@ fn ask(file: &File) -> io::Result<LockAnswer> {
         match file.try_lock() {
             Ok(()) => return Ok(LockAnswer::Granted),
             Err(TryLockError::WouldBlock) => return Ok(LockAnswer::Refused),
-            Err(TryLockError::Error(error)) if is_unsupported(error.kind()) => {
+            Err(TryLockError::Error(error)) if locks_nothing(error.kind()) => {
                 return Ok(LockAnswer::NoLocks);
             }
             Err(TryLockError::Error(error)) if error.kind() == ErrorKind::Interrupted => {}

@@ -1,6 +1,6 @@
 //! Logs beside the files of the system: commits that the files do not have yet.
 ghost use Rattle.std.specs.Prelude.{◌≡◌, ◌≤◌, ◌++◌, take, length, IfErr, IfOk, OnOk, Some};
-ghost use Rattle.segment_log.specs.{CommittedImages.IsCommitted, Crashes.with_log, Records.zeros};
+ghost use Rattle.segment_log.specs.{CommittedImages.IsCommitted, Crashes.with_log, Records.shut_gate};
 ghost use Rattle.segment_disk.specs.Logs.{Recovers, RefusesLog};
 
 use crate::file_problems::problem_of;
@@ -73,7 +73,7 @@ pub(crate) fn recovered(base: Vec<u8>, log: &[u8]) -> Result<RecoveredImage, Log
 /// Returns the bytes of a log up to the end of its records, and a shut gate.
 fn shut_at(alloc: Global, log: &[u8], end: usize) -> Result<Vec<u8>, AllocError>
     requires in_bounds { end ≤ length log.now }
-    ensures { IfOk result (λ bytes. bytes.items ≡ take end log.now ++ zeros 4096) }
+    ensures { IfOk result (λ bytes. bytes.items ≡ take end log.now ++ shut_gate) }
 {
     let mut bytes = Vec::new(alloc);
     bytes.extend_from_slice(&log[..end])?;

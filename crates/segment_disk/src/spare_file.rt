@@ -43,22 +43,37 @@ fn remove_abandoned<R: Files<File = File>>(files: &R, path: &str) -> io::Result<
     Ok(())
 }
 
-/// Makes an empty file of a path where nothing is, and locks it, if it can be. `None` if something is there.
+/// Locks a file that was just made, if it can be, and returns another handle of it.
+fn held_twice<C: Clock>(clock: &C, file: &File) -> io::Result<(File, FileLock)> {
+    let lock = lock_made(clock, file)?;
+    Ok((file.try_clone()?, lock))
+}
+
+/// Makes an empty file of a path where nothing is, and locks it, if it can be. `None` if something is there. If the
+/// system fails in between, the file is removed.
 fn make_locked<R: Files<File = File> + Clock>(
     rt: &R,
     path: &str,
     rights: u32,
-) -> io::Result<Option<(File, FileLock)>> {
+) -> io::Result<Option<(File, File, FileLock)>> {
     let _ = remove_abandoned(rt, path);
     let mut options = OpenOptions::new();
     options.write(true).create_new(true).mode(rights);
-    match options.open(rt, path) {
-        Ok(file) => {
-            let lock = lock_made(rt, &file)?;
-            Ok(is_named(rt, path, &file).then_some((file, lock)))
+    let file = match options.open(rt, path) {
+        Ok(file) => file,
+        Err(error) if error.kind() == ErrorKind::AlreadyExists => return Ok(None),
+        Err(error) => return Err(error),
+    };
+    match held_twice(rt, &file) {
+        Ok((kept, lock)) if is_named(rt, path, &file) => Ok(Some((file, kept, lock))),
+        Ok(_) => {
+            let _ = remove_named(rt, path, &file);
+            Ok(None)
         }
-        Err(error) if error.kind() == ErrorKind::AlreadyExists => Ok(None),
-        Err(error) => Err(error),
+        Err(error) => {
+            let _ = remove_named(rt, path, &file);
+            Err(error)
+        }
     }
 }
 
@@ -79,8 +94,7 @@ impl SpareFile {
             let path = beside
                 .with_file_name(rt.alloc(), hidden.as_str())?
                 .into_string();
-            if let Some((file, lock)) = make_locked(rt, path.as_str(), rights)? {
-                let kept = file.try_clone()?;
+            if let Some((file, kept, lock)) = make_locked(rt, path.as_str(), rights)? {
                 return Ok((file, SpareFile { path, file: kept }, lock));
             }
         }

@@ -9,7 +9,7 @@ use Rattle.segment_log.specs.Events.{seen_in_the_end}
 use Rattle.segment_log.specs.Fingerprints.{fingerprint}
 use Rattle.segment_log.specs.Laws.{shut_events}
 use Rattle.segment_log.specs.Openings.{IsReady, RepairedIsReady}
-use Rattle.segment_log.specs.Records.{IsEndOfLog, next_at, recovered, recovered_at, zeros}
+use Rattle.segment_log.specs.Records.{IsEndOfLog, next_at, recovered, recovered_at, shut_gate}
 use Rattle.segment_log.specs.Tags.{AreTogether, belongs, names_after}
 use Rattle.segment_log.specs.declared.committed_image.CommittedImage.{CommittedImage}
 use Rattle.segment_log.specs.declared.recovery.RecoveredImage.{RecoveredImage}
@@ -55,16 +55,16 @@ module _ (base log : List ℕ) (made : RecoveredImage) (r : Recovers base log ma
   cut_stands : stands_for (with_log base cut) ≡ made.image.items
   cut_stands = ap (λ (ps : List (List ℕ)). applied_all ps base) cut_records ∙ sym r.image
 
-  gated : take made.end cut ++ zeros 4096 ++ drop (made.end + length (zeros 4096)) cut ≡ cut ++ zeros 4096
-  gated = ap (λ (l : List ℕ). l ++ zeros 4096 ++ drop (made.end + length (zeros 4096)) cut) cut_again
-      ∙ (ap (λ (l : List ℕ). cut ++ zeros 4096 ++ l) (nothing_behind (made.end + length (zeros 4096)) (omega arith))
-      ∙ append-nil (cut ++ zeros 4096))
+  gated : take made.end cut ++ shut_gate ++ drop (made.end + length shut_gate) cut ≡ cut ++ shut_gate
+  gated = ap (λ (l : List ℕ). l ++ shut_gate ++ drop (made.end + length shut_gate) cut) cut_again
+      ∙ (ap (λ (l : List ℕ). cut ++ shut_gate ++ l) (nothing_behind (made.end + length shut_gate) (omega arith))
+      ∙ append-nil (cut ++ shut_gate))
 
   -- it stands with its file for the image that was recovered
-  pub gated_stands : RepairedIsReady → IsCommitted (with_log base (cut ++ zeros 4096))
+  pub gated_stands : RepairedIsReady → IsCommitted (with_log base (cut ++ shut_gate))
       (record { image = made.image; end = made.end; base = made.base })
   gated_stands law = record {
-    ready = subst (λ (image : List ℕ). IsReady (with_log base (cut ++ zeros 4096)) made.end image) cut_stands
+    ready = subst (λ (image : List ℕ). IsReady (with_log base (cut ++ shut_gate)) made.end image) cut_stands
         (subst (λ (l : List ℕ). IsReady (with_log base l) made.end (stands_for (with_log base cut))) gated
         (law (with_log base cut) made.end cut_ends cut_together).ready);
     base = sym r.named;

@@ -2417,6 +2417,9 @@ def what_messages_say():
     """A message names what it is about, and the figures that decide."""
     s = create(1024)
     s["v"], s["text"], s["n"] = [1], "text", 5
+    gone = s.construct("vec<bool>", "gone", [True])
+    del s["gone"]
+    s["gone"] = [1]
     path, version = new("said"), bytearray(s.image())
     version[8] = 9
     bad = path_of("version")
@@ -2441,6 +2444,12 @@ def what_messages_say():
             (zaluxhoni.WrongKindError, lambda: s.find("i64", "v"), "'v'", "vec<i64>"),
             (zaluxhoni.WrongKindError, lambda: s.vector("text"), "'text'", "string", "vec<i64>"),
             (zaluxhoni.WrongKindError, lambda: s.map("n"), "'n'", "i64", "map<i64,i64>"),
+            (zaluxhoni.OutOfRangeError, lambda: s["v"][5], "'v'", "element 5", "length is 1"),
+            (zaluxhoni.OutOfRangeError, lambda: set_item(s["v"], 7, 1), "'v'", "element 7", "length is 1"),
+            (zaluxhoni.OutOfRangeError, lambda: delete_item(s["v"], 8), "'v'", "element 8", "length is 1"),
+            (zaluxhoni.OutOfRangeError, lambda: s.string("text")[9], "'text'", "element 9", "length is 4"),
+            (zaluxhoni.OutOfRangeError, lambda: s.object("n")[3], "'n'", "element 3", "length is 1"),
+            (zaluxhoni.WrongKindError, lambda: gone.append(True), "'gone'", "vec<i64>", "vec<bool>"),
             (zaluxhoni.UnsupportedVersionError, lambda: zaluxhoni.load(bytes(version)), "version 9", "segment migrate"),
             (zaluxhoni.UnsupportedVersionError, lambda: zaluxhoni.check(bytes(version)), "version 9",
              "segment migrate"),

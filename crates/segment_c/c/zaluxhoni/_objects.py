@@ -126,7 +126,13 @@ class Object(_library.Place):
             raise self._error(code, arguments)
 
     def _error(self, code: int, arguments: Tuple[Any, ...] = ()) -> Error:
-        """Returns the error of a call that failed."""
+        """Returns the error of a call that failed: with the index and the length, or with the kind that the object has
+        by now."""
+        if code == OutOfRangeError.code and arguments and type(arguments[0]) is int:
+            return OutOfRangeError(f"{shown(self._key)} has no element {arguments[0]}: its length is {len(self)}")
+        told = self._segment._told(self._key) if code == WrongKindError.code else None
+        if told is not None and told.kind != self._code:
+            return WrongKindError(f"{shown(self._key)} is a {KINDS[told.kind]} now, and no {self.kind}")
         return self._segment._error(code, self._key, arguments)
 
     def _change(self, call: Any, *arguments: Any) -> None:

@@ -786,8 +786,9 @@ struct state {
         return grow(left < wanted && left >= 32 ? left : wanted);
     }
     zx_code grow(std::uint64_t extra) {
-        viewed.clear();
-        return zx_file_grow(&file, extra);
+        const zx_code code = zx_file_grow(&file, extra);
+        if (code == ZX_DONE) viewed.clear();
+        return code;
     }
 
   private:
@@ -1588,8 +1589,8 @@ class segment {
     void shrink() { state().check(zx_file_shrink(&state().file)); }
     /// Moves the segment into a region of `capacity` bytes.
     void relocate(std::uint64_t capacity) {
-        state().viewed.clear();
         check_code(zx_relocate(raw(), capacity));
+        state().viewed.clear();
     }
 
     /// Lets the segment grow by itself: a call that finds no space makes it longer by half, and continues. If it cannot
@@ -1597,7 +1598,8 @@ class segment {
     void set_growing(bool grows) { state().grows = grows; }
     [[nodiscard]] bool is_growing() const { return state().grows; }
     /// Runs `call`. Each time it throws `no_space`, makes the segment longer by half and runs it again. If the segment
-    /// cannot grow further, throws `too_large` or `no_memory`; the segment keeps the length that it has by then.
+    /// cannot grow further, throws `too_large` or `no_memory`; the segment keeps the length that it has by then. A segment
+    /// that grows ends its views, so `call` asks for the views that it passes.
     template <class Call> auto growing(Call call) -> decltype(call()) {
         // `call` may assign to this segment, or destroy it
         const std::shared_ptr<detail::state> of = shared();

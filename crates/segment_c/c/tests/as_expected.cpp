@@ -634,6 +634,15 @@ void views_that_are_passed() {
         }
         IS(items.size() == 382 && items == std::vector<item>(382, {1.5, 2, 3, 4}) && s.sanity());
     }
+    // a call that fails ends no view
+    segment s = segment::create(8192);
+    const auto text = s.string("text");
+    text.assign(std::string(500, 'a') + std::string(500, 'b'));
+    const std::string_view there = text.view();
+    THROWS(bad_growth, s.grow(7));
+    THROWS(bad_size, s.relocate(7));
+    text.append(there);
+    IS(text.size() == 2000 && text.view().substr(1000, 500) == std::string(500, 'a') && text.ends_with("b"));
 }
 
 /// Iterators read and write elements where they are, until a call changes the segment; then they find the object anew.

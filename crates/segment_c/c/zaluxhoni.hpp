@@ -86,9 +86,9 @@ inline const std::error_category &category() noexcept {
 }
 
 /// The base of all errors: `refused`, `file_error` and `outdated`. `code()` is one of ZX_.. in zaluxhoni.h and
-/// zaluxhoni_files.h, or 0 for `outdated`, and `what()` says it in words. Each error that is thrown also derives from an
-/// exception of std: `out_of_range` and `absent` from std::out_of_range, `no_memory` from std::bad_alloc, `outdated` from
-/// std::logic_error, and each other one from std::system_error. These have no base in common but std::exception, and a
+/// zaluxhoni_files.h, or 0 for `outdated`, and `what()` says it in words. Each error that is thrown also derives from
+/// an exception of std: `out_of_range` and `absent` from std::out_of_range, `no_memory` from std::bad_alloc, `outdated`
+/// from std::logic_error, and each other one from std::system_error. These have only std::exception in common, and a
 /// class with two such bases could not be caught as one: so `error` itself has none, but converts to it.
 class error {
   public:
@@ -135,10 +135,11 @@ class as_bad_alloc : public std::bad_alloc {
     const char *what() const noexcept override { return "out of memory"; }
 };
 
+template <zx_code CODE> inline constexpr bool is_out_of_range = CODE == ZX_OUT_OF_RANGE || CODE == ZX_ABSENT;
 template <zx_code CODE>
 using standard_of =
     std::conditional_t<CODE == ZX_NO_MEMORY, as_bad_alloc,
-                       std::conditional_t<CODE == ZX_OUT_OF_RANGE || CODE == ZX_ABSENT, as_out_of_range, as_system_error>>;
+                       std::conditional_t<is_out_of_range<CODE>, as_out_of_range, as_system_error>>;
 
 /// A refusal that is thrown: an exception of std, and `refused`.
 template <class Standard> class refusal : public Standard, public refused {
@@ -1224,8 +1225,8 @@ template <class T> class value_kept<T, true> {
 };
 
 /// One element. It reads when a value is needed, and writes when one is assigned. It stays valid as long as the
-/// segment. `swap` and `std::iter_swap` swap two elements. `std::swap` would move an element where it has to move a value,
-/// so an element is not moved, and then that does not compile.
+/// segment. `swap` and `std::iter_swap` swap two elements. `std::swap` would move an element where it has to move a
+/// value, so an element is not moved, and then that does not compile.
 template <class Access> class element : private value_kept<typename Access::value_type> {
   public:
     using value_type = typename Access::value_type;
@@ -1598,8 +1599,8 @@ class segment {
     void set_growing(bool grows) { state().grows = grows; }
     [[nodiscard]] bool is_growing() const { return state().grows; }
     /// Runs `call`. Each time it throws `no_space`, makes the segment longer by half and runs it again. If the segment
-    /// cannot grow further, throws `too_large` or `no_memory`; the segment keeps the length that it has by then. A segment
-    /// that grows ends its views, so `call` asks for the views that it passes.
+    /// cannot grow further, throws `too_large` or `no_memory`; the segment keeps the length that it has by then. A
+    /// segment that grows ends its views, so `call` asks for the views that it passes.
     template <class Call> auto growing(Call call) -> decltype(call()) {
         // `call` may assign to this segment, or destroy it
         const std::shared_ptr<detail::state> of = shared();
@@ -2113,8 +2114,8 @@ template <class Reader, class Access> class row : public Reader {
     using Reader::Reader;
 
     void set(std::uint64_t index, typename Access::passed_type value) const { Access::set(this->here(), index, value); }
-    /// Calls `change` with a copy of the element, and then writes the copy: `v.modify(0, [](item &of) { of.stock++; })`.
-    /// If `change` throws, writes nothing.
+    /// Calls `change` with a copy of the element, and then writes the copy:
+    /// `v.modify(0, [](item &of) { of.stock++; })`. If `change` throws, writes nothing.
     template <class Change> void modify(std::uint64_t index, Change change) const { (*this)[index].modify(change); }
     [[nodiscard]] reference operator[](std::uint64_t index) const { return {this->here(), index}; }
     [[nodiscard]] reference front() const { return (*this)[0]; }

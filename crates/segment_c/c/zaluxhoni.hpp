@@ -260,6 +260,10 @@ using file_log_foreign = file_error_of<ZX_FILE_LOG_FOREIGN>;
 using file_unsure = file_error_of<ZX_FILE_UNSURE>;
 /// A transaction is open: it is saved when it ends, and not before.
 using file_in_step = file_error_of<ZX_FILE_IN_STEP>;
+/// A file that is no log has the name FILE-log, so nothing is committed: remove or rename it.
+using file_log_in_the_way = file_error_of<ZX_FILE_LOG_IN_THE_WAY>;
+/// FILE-log has commits of a file that is gone, so no file is created: put the file back, or remove its log.
+using file_log_left = file_error_of<ZX_FILE_LOG_LEFT>;
 
 /// Throws the error of a code that a file call returned.
 [[noreturn]] inline void throw_file_code(zx_code code, const zx_file &file, const std::string &path) {
@@ -274,8 +278,10 @@ using file_in_step = file_error_of<ZX_FILE_IN_STEP>;
     case ZX_FILE_LOG_FOREIGN: throw file_log_foreign(error, path);
     case ZX_FILE_UNSURE: throw file_unsure(error, path);
     case ZX_FILE_IN_STEP: throw file_in_step(error, path);
+    case ZX_FILE_LOG_IN_THE_WAY: throw file_log_in_the_way(error, path);
+    case ZX_FILE_LOG_LEFT: throw file_log_left(error, path);
     default:
-        if (ZX_FILE_IN_USE <= code && code <= ZX_FILE_IN_STEP) throw file_error(code, error, path);
+        if (ZX_FILE_IN_USE <= code && code <= ZX_FILE_LOG_LEFT) throw file_error(code, error, path);
         throw_code(code, file.place);
     }
 }

@@ -9,6 +9,7 @@
 #include <cstdio>
 #include <cstdlib>
 #include <deque>
+#include <fstream>
 #include <iostream>
 #include <limits>
 #include <list>
@@ -1233,6 +1234,39 @@ void maps_both_ways() {
 #endif
 }
 
+/// What lies under the name of a log is left alone, and refused by name where a log is needed.
+void files_under_the_name_of_a_log() {
+    const std::string path = own_path("log"), log = path + "-log";
+    for (const std::string &each : {path, log}) std::remove(each.c_str());
+    {
+        segment s = segment::create_durable_file(path, 8192);
+        s.construct<i64>("a", 5);
+        std::ofstream(log) << "notes of somebody else";
+        THROWS(file_log_in_the_way, s.commit());
+        THROWS(file_log_in_the_way, s.transaction([&] { s.set<i64>("a", 0, 6); }));
+        IS(s.get<i64>("a") == 5);
+        std::string words;
+        std::getline(std::ifstream(log), words);
+        IS(words == "notes of somebody else");
+        std::remove(log.c_str());
+        s.commit();
+    }
+    IS(segment::open_file(path, zaluxhoni::mode::read).get<i64>("a") == 5);
+    // a commit alone leaves a log with records, which no new file takes
+    IS(std::ifstream(log).good());
+    std::rename(path.c_str(), (path + "2").c_str());
+    THROWS(file_log_left, segment::create_file(path, 8192));
+    THROWS(file_log_left, segment::open_or_create_durable_file(path, 8192));
+    try {
+        static_cast<void>(segment::create_file(path, 8192));
+    } catch (const zaluxhoni::file_error &error) {
+        IS(error.file_code() == ZX_FILE_LOG_LEFT && error.code().value() == EEXIST);
+    }
+    std::rename((path + "2").c_str(), path.c_str());
+    IS(segment::open_file(path, zaluxhoni::mode::read).get<i64>("a") == 5);
+    for (const std::string &each : {path, log}) std::remove(each.c_str());
+}
+
 /// `->` reads a member of an element; `modify`, and a view, write members.
 void members_that_are_written() {
     segment s = segment::create(65536);
@@ -1466,7 +1500,7 @@ void every_case() {
                                transactions_and_files, const_segments, groups, segments_that_grow, errors,
                                errors_of_std, sizes_that_do_not_fit, swapped, projected, members_as_in_std,
                                maps_both_ways, members_that_are_written, moved_from, objects_found_or_made,
-                               storage_that_cannot_double, an_open_that_waits};
+                               storage_that_cannot_double, an_open_that_waits, files_under_the_name_of_a_log};
     for (void (*each)() : cases) {
         try {
             each();

@@ -6,6 +6,8 @@
        shop.vector<std::int64_t>("queue").push_back(1);
        shop.map<std::int32_t, std::int64_t>("prices")[7] = 250;
 
+   `vector`, `map`, `string`, `strings` and `array` are references: a copy refers to the same object of the segment.
+
    A call that the library refuses throws `zaluxhoni::error`, and then nothing has changed, but for `growing`, which is
    several calls. A segment, and all that was asked of it, are used on one thread, one call at a time. */
 #ifndef ZALUXHONI_HPP
@@ -1971,9 +1973,10 @@ class group {
 
 // ---- one object
 
-/// The base of all objects: their segment and their handle. After the segment is freed, or the object is moved from,
-/// each call throws `closed`. After the object is destroyed, calls throw `not_found`; once another object has its
-/// handle, they are for that object, or throw `wrong_kind`.
+/// The base of `vector`, `map` and their like: their segment and their handle. They are references: a copy refers to the
+/// same object of the segment. After the segment is freed, or the reference is moved from, each call throws `closed`.
+/// After the object is destroyed, calls throw `not_found`; once another object has its handle, they are for that object,
+/// or throw `wrong_kind`.
 class object {
   public:
     object(std::shared_ptr<detail::state> of, std::uint64_t handle) noexcept : of_(std::move(of)), handle_(handle) {}

@@ -24,6 +24,14 @@
 /* Sets the name that the linker uses for a function. */
 #define ZX_NAMED(name) __asm__(#name)
 
+/* Begins a function that this header defines. A program in C++ has one such function, so that an inline function of C++
+   may call it. */
+#ifdef __cplusplus
+#define ZX_INLINE inline __attribute__((visibility("hidden")))
+#else
+#define ZX_INLINE static inline
+#endif
+
 #ifdef __cplusplus
 extern "C" {
 #endif
@@ -195,17 +203,17 @@ typedef struct {
 /* ---- making what is passed */
 
 /* Returns a pointer to no bytes, so that an empty slice is not null. */
-static inline const uint8_t *zx_no_bytes(void) {
+ZX_INLINE const uint8_t *zx_no_bytes(void) {
     static const uint8_t none[1] = { 0 };
     return none;
 }
 
-static inline zx_key zx_key_of(uint32_t how, uint32_t kind, uint64_t handle) {
+ZX_INLINE zx_key zx_key_of(uint32_t how, uint32_t kind, uint64_t handle) {
     zx_key key = { how, kind, handle, zx_no_bytes(), 0 };
     return key;
 }
 
-static inline zx_key zx_name_of(const void *name, size_t len) {
+ZX_INLINE zx_key zx_name_of(const void *name, size_t len) {
     zx_key key = zx_key_of(name ? ZX_BY_NAME : ZX_NULL_NAME, 0, 0);
     if (!name) return key;
 #ifdef __cplusplus
@@ -217,29 +225,29 @@ static inline zx_key zx_name_of(const void *name, size_t len) {
     return key;
 }
 
-static inline zx_key zx_name(const char *name) { return zx_name_of(name, name ? strlen(name) : 0); }
+ZX_INLINE zx_key zx_name(const char *name) { return zx_name_of(name, name ? strlen(name) : 0); }
 
-static inline zx_key zx_unique(uint32_t kind) { return zx_key_of(ZX_BY_KIND, kind, 0); }
-static inline zx_key zx_handle(uint64_t handle) { return zx_key_of(ZX_BY_HANDLE, 0, handle); }
-static inline zx_key zx_anonymous(void) { return zx_key_of(ZX_NO_KEY, 0, 0); }
+ZX_INLINE zx_key zx_unique(uint32_t kind) { return zx_key_of(ZX_BY_KIND, kind, 0); }
+ZX_INLINE zx_key zx_handle(uint64_t handle) { return zx_key_of(ZX_BY_HANDLE, 0, handle); }
+ZX_INLINE zx_key zx_anonymous(void) { return zx_key_of(ZX_NO_KEY, 0, 0); }
 
-static inline zx_value zx_natural(uint32_t kind, uint64_t natural) {
+ZX_INLINE zx_value zx_natural(uint32_t kind, uint64_t natural) {
     zx_value value = { kind, 0, natural };
     return value;
 }
 
-static inline zx_value zx_number(uint32_t kind, int64_t number) {
+ZX_INLINE zx_value zx_number(uint32_t kind, int64_t number) {
     zx_value value = { kind, number, 0 };
     return value;
 }
 
-static inline zx_value zx_bool(bool truth) { return zx_natural(ZX_BOOL, truth ? 1 : 0); }
-static inline zx_value zx_u8(uint8_t number) { return zx_natural(ZX_U8, number); }
-static inline zx_value zx_i32(int32_t number) { return zx_number(ZX_I32, number); }
-static inline zx_value zx_i64(int64_t number) { return zx_number(ZX_I64, number); }
-static inline zx_value zx_u64(uint64_t number) { return zx_natural(ZX_U64, number); }
+ZX_INLINE zx_value zx_bool(bool truth) { return zx_natural(ZX_BOOL, truth ? 1 : 0); }
+ZX_INLINE zx_value zx_u8(uint8_t number) { return zx_natural(ZX_U8, number); }
+ZX_INLINE zx_value zx_i32(int32_t number) { return zx_number(ZX_I32, number); }
+ZX_INLINE zx_value zx_i64(int64_t number) { return zx_number(ZX_I64, number); }
+ZX_INLINE zx_value zx_u64(uint64_t number) { return zx_natural(ZX_U64, number); }
 
-static inline zx_values zx_no_values(void) {
+ZX_INLINE zx_values zx_no_values(void) {
     static const bool truths[1] = { false };
     static const int32_t i32s[1] = { 0 };
     static const int64_t i64s[1] = { 0 };
@@ -248,31 +256,31 @@ static inline zx_values zx_no_values(void) {
     return values;
 }
 
-static inline zx_values zx_bools(const bool *at, size_t count) {
+ZX_INLINE zx_values zx_bools(const bool *at, size_t count) {
     zx_values values = zx_no_values();
     if (at) { values.kind = ZX_BOOL; values.truths = at; values.truth_count = count; }
     return values;
 }
 
-static inline zx_values zx_u8s(const uint8_t *at, size_t count) {
+ZX_INLINE zx_values zx_u8s(const uint8_t *at, size_t count) {
     zx_values values = zx_no_values();
     if (at) { values.kind = ZX_U8; values.bytes = at; values.byte_count = count; }
     return values;
 }
 
-static inline zx_values zx_i32s(const int32_t *at, size_t count) {
+ZX_INLINE zx_values zx_i32s(const int32_t *at, size_t count) {
     zx_values values = zx_no_values();
     if (at) { values.kind = ZX_I32; values.i32s = at; values.i32_count = count; }
     return values;
 }
 
-static inline zx_values zx_i64s(const int64_t *at, size_t count) {
+ZX_INLINE zx_values zx_i64s(const int64_t *at, size_t count) {
     zx_values values = zx_no_values();
     if (at) { values.kind = ZX_I64; values.i64s = at; values.i64_count = count; }
     return values;
 }
 
-static inline zx_values zx_u64s(const uint64_t *at, size_t count) {
+ZX_INLINE zx_values zx_u64s(const uint64_t *at, size_t count) {
     zx_values values = zx_no_values();
     if (at) { values.kind = ZX_U64; values.u64s = at; values.u64_count = count; }
     return values;
@@ -287,26 +295,26 @@ zx_code zx_create(zx_segment *segment, uint64_t size);
 /* Opens a copy of the image, in a region of `capacity` bytes: a multiple of 16 from 16 to 1099511627776. Closes what
    the handle had. Errors: ZX_NULL_SLICE, ZX_BAD_SIZE (the capacity), ZX_BAD_MODE, ZX_NO_MEMORY, ZX_SHORT_REGION,
    ZX_TRUNCATED to ZX_ORPHAN_BLOCK. */
-static inline zx_code zx_open(zx_segment *segment, const uint8_t *image, size_t len, uint64_t capacity,
-                              uint32_t mode) ZX_NAMED(zx_open_or_null);
+ZX_INLINE zx_code zx_open(zx_segment *segment, const uint8_t *image, size_t len, uint64_t capacity,
+                          uint32_t mode) ZX_NAMED(zx_open_or_null);
 
 /* Opens as zx_open does, and says where a refused image is wrong. With ZX_TRUNCATED to ZX_ORPHAN_BLOCK, `place` is the
    offset of a byte that shows the class, as zx_explain stores it, and the bytes are checked once. With any other code
    `place` is unchanged. */
-static inline zx_code zx_open_explained(zx_segment *segment, const uint8_t *image, size_t len, uint64_t capacity,
-                                        uint32_t mode, uint64_t *place) ZX_NAMED(zx_open_explained_or_null);
+ZX_INLINE zx_code zx_open_explained(zx_segment *segment, const uint8_t *image, size_t len, uint64_t capacity,
+                                    uint32_t mode, uint64_t *place) ZX_NAMED(zx_open_explained_or_null);
 
 /* Checks whether the bytes are the image of a segment. It allocates a region of the size that the image states; if
    fewer bytes are there, it allocates none. Errors: ZX_NULL_SLICE, ZX_NO_MEMORY, ZX_TRUNCATED to ZX_ORPHAN_BLOCK. */
-static inline zx_code zx_check(const uint8_t *image, size_t len) ZX_NAMED(zx_check_or_null);
+ZX_INLINE zx_code zx_check(const uint8_t *image, size_t len) ZX_NAMED(zx_check_or_null);
 
 /* Checks as zx_check does, and says where the image is wrong. With ZX_TRUNCATED to ZX_ORPHAN_BLOCK, `place` is the
    offset of a byte that shows the class; docs/C.md lists them. With any other code `place` is unchanged. */
-static inline zx_code zx_explain(const uint8_t *image, size_t len, uint64_t *place) ZX_NAMED(zx_explain_or_null);
+ZX_INLINE zx_code zx_explain(const uint8_t *image, size_t len, uint64_t *place) ZX_NAMED(zx_explain_or_null);
 
 /* Copies the image to the start of the buffer: as many bytes as zx_size says. Errors: ZX_NULL_SLICE, ZX_CLOSED,
    ZX_SHORT_BUFFER. */
-static inline zx_code zx_save(zx_segment *segment, uint8_t *image, size_t room) ZX_NAMED(zx_save_or_null);
+ZX_INLINE zx_code zx_save(zx_segment *segment, uint8_t *image, size_t room) ZX_NAMED(zx_save_or_null);
 
 /* Opens the image of `len` bytes at the start of the memory, without a copy. No byte is written before the first call
    that changes the segment, and with ZX_READ none ever. The memory has a multiple of 16 bytes, as a region of zx_open;
@@ -314,13 +322,13 @@ static inline zx_code zx_save(zx_segment *segment, uint8_t *image, size_t room) 
    owns the bytes until zx_detach gives them back. Until then nobody else writes, frees or unmaps them, or makes a file
    that is mapped there shorter, and others read them only between calls. On failure `memory` is unchanged. Errors:
    ZX_NULL_SLICE; ZX_BAD_SIZE, also if `len` exceeds the memory; ZX_BAD_MODE; and those of zx_open. */
-static inline zx_code zx_attach(zx_segment *segment, zx_memory *memory, uint64_t len,
-                                uint32_t mode) ZX_NAMED(zx_attach_or_null);
+ZX_INLINE zx_code zx_attach(zx_segment *segment, zx_memory *memory, uint64_t len,
+                            uint32_t mode) ZX_NAMED(zx_attach_or_null);
 
 /* Opens as zx_attach does, and says where a refused image is wrong, as zx_open_explained. The code and the place are of
    one check, so they agree even if another process changes a mapped file meanwhile. */
-static inline zx_code zx_attach_explained(zx_segment *segment, zx_memory *memory, uint64_t len, uint32_t mode,
-                                          uint64_t *place) ZX_NAMED(zx_attach_explained_or_null);
+ZX_INLINE zx_code zx_attach_explained(zx_segment *segment, zx_memory *memory, uint64_t len, uint32_t mode,
+                                      uint64_t *place) ZX_NAMED(zx_attach_explained_or_null);
 
 /* Closes the segment, and gives back the memory in which it lies, with its bytes. The caller free()s it if the library
    allocated it. zx_close, or another segment in the handle, frees no borrowed memory. Errors: ZX_CLOSED. */
@@ -349,7 +357,7 @@ void zx_close(zx_segment *segment);
    room: relocate again, and repeat it. */
 zx_code zx_begin(zx_segment *segment, zx_segment *before);
 zx_code zx_rollback(zx_segment *segment, zx_segment *before);
-static inline void zx_commit(zx_segment *before) { zx_close(before); }
+ZX_INLINE void zx_commit(zx_segment *before) { zx_close(before); }
 
 /* Tell how the segment is open; its bytes; the bytes of all gaps; the bytes of its region after it. Errors:
    ZX_CLOSED. */
@@ -374,10 +382,10 @@ zx_code zx_construct_array(zx_segment *segment, const zx_key *key, const zx_valu
 zx_code zx_construct_vector(zx_segment *segment, const zx_key *key, const zx_values *values, uint64_t *handle);
 /* Make a string; a vector of strings; an empty map from keys of one kind to values of another. Errors: ZX_NULL_SLICE or
    ZX_BAD_KIND; ZX_READ_ONLY, ZX_EXISTS, ZX_NO_SPACE. */
-static inline zx_code zx_construct_string(zx_segment *segment, const zx_key *key, const uint8_t *text, size_t len,
-                                          uint64_t *handle) ZX_NAMED(zx_construct_string_or_null);
-static inline zx_code zx_construct_strings(zx_segment *segment, const zx_key *key, const zx_text *texts, size_t count,
-                                           uint64_t *handle) ZX_NAMED(zx_construct_strings_or_null);
+ZX_INLINE zx_code zx_construct_string(zx_segment *segment, const zx_key *key, const uint8_t *text, size_t len,
+                                      uint64_t *handle) ZX_NAMED(zx_construct_string_or_null);
+ZX_INLINE zx_code zx_construct_strings(zx_segment *segment, const zx_key *key, const zx_text *texts, size_t count,
+                                       uint64_t *handle) ZX_NAMED(zx_construct_strings_or_null);
 zx_code zx_construct_map(zx_segment *segment, const zx_key *key, uint32_t keys, uint32_t values, uint64_t *handle);
 
 /* Finds the object of the key, which stays unchanged, or makes it. `found` is the number of its scalars, and 1 for a
@@ -387,12 +395,12 @@ zx_code zx_find_or_construct(zx_segment *segment, const zx_key *key, uint32_t co
                              uint64_t *handle, uint32_t *found);
 zx_code zx_find_or_construct_vector(zx_segment *segment, const zx_key *key, const zx_values *values, uint64_t *handle,
                                     uint32_t *found);
-static inline zx_code zx_find_or_construct_string(zx_segment *segment, const zx_key *key, const uint8_t *text,
-                                                  size_t len, uint64_t *handle,
-                                                  uint32_t *found) ZX_NAMED(zx_find_or_construct_string_or_null);
-static inline zx_code zx_find_or_construct_strings(zx_segment *segment, const zx_key *key, const zx_text *texts,
-                                                   size_t count, uint64_t *handle,
-                                                   uint32_t *found) ZX_NAMED(zx_find_or_construct_strings_or_null);
+ZX_INLINE zx_code zx_find_or_construct_string(zx_segment *segment, const zx_key *key, const uint8_t *text,
+                                              size_t len, uint64_t *handle,
+                                              uint32_t *found) ZX_NAMED(zx_find_or_construct_string_or_null);
+ZX_INLINE zx_code zx_find_or_construct_strings(zx_segment *segment, const zx_key *key, const zx_text *texts,
+                                               size_t count, uint64_t *handle,
+                                               uint32_t *found) ZX_NAMED(zx_find_or_construct_strings_or_null);
 zx_code zx_find_or_construct_map(zx_segment *segment, const zx_key *key, uint32_t keys, uint32_t values,
                                  uint64_t *handle, uint32_t *found);
 
@@ -404,8 +412,8 @@ zx_code zx_find(zx_segment *segment, const zx_key *key, uint32_t kind, uint64_t 
 zx_code zx_destroy(zx_segment *segment, const zx_key *key, bool *was_there);
 /* Tells about an object, and copies its name to the start of `name`; 255 bytes are always enough. Errors:
    ZX_NULL_SLICE, ZX_NOT_FOUND, ZX_SHORT_BUFFER. */
-static inline zx_code zx_tell(zx_segment *segment, const zx_key *key, zx_info *info, uint8_t *name,
-                              size_t room) ZX_NAMED(zx_tell_or_null);
+ZX_INLINE zx_code zx_tell(zx_segment *segment, const zx_key *key, zx_info *info, uint8_t *name,
+                          size_t room) ZX_NAMED(zx_tell_or_null);
 
 /* ---- elements: of objects of scalars, of vectors, and of strings, whose elements are bytes
 
@@ -434,16 +442,16 @@ zx_code zx_clear(zx_segment *segment, const zx_key *key);
 /* Copy `count` elements of an array or a vector to `row`, from `first` on: all of them or none. The name of the call
    says their kind. Each byte of a row of bools is 0 or 1 before the call too. Errors: ZX_NULL_SLICE; ZX_NOT_FOUND,
    ZX_WRONG_KIND, ZX_OUT_OF_RANGE. */
-static inline zx_code zx_read_bools(zx_segment *segment, const zx_key *key, uint64_t first, bool *row,
-                                    size_t count) ZX_NAMED(zx_read_bools_or_null);
-static inline zx_code zx_read_u8s(zx_segment *segment, const zx_key *key, uint64_t first, uint8_t *row,
-                                  size_t count) ZX_NAMED(zx_read_u8s_or_null);
-static inline zx_code zx_read_i32s(zx_segment *segment, const zx_key *key, uint64_t first, int32_t *row,
-                                   size_t count) ZX_NAMED(zx_read_i32s_or_null);
-static inline zx_code zx_read_i64s(zx_segment *segment, const zx_key *key, uint64_t first, int64_t *row,
-                                   size_t count) ZX_NAMED(zx_read_i64s_or_null);
-static inline zx_code zx_read_u64s(zx_segment *segment, const zx_key *key, uint64_t first, uint64_t *row,
-                                   size_t count) ZX_NAMED(zx_read_u64s_or_null);
+ZX_INLINE zx_code zx_read_bools(zx_segment *segment, const zx_key *key, uint64_t first, bool *row,
+                                size_t count) ZX_NAMED(zx_read_bools_or_null);
+ZX_INLINE zx_code zx_read_u8s(zx_segment *segment, const zx_key *key, uint64_t first, uint8_t *row,
+                              size_t count) ZX_NAMED(zx_read_u8s_or_null);
+ZX_INLINE zx_code zx_read_i32s(zx_segment *segment, const zx_key *key, uint64_t first, int32_t *row,
+                               size_t count) ZX_NAMED(zx_read_i32s_or_null);
+ZX_INLINE zx_code zx_read_i64s(zx_segment *segment, const zx_key *key, uint64_t first, int64_t *row,
+                               size_t count) ZX_NAMED(zx_read_i64s_or_null);
+ZX_INLINE zx_code zx_read_u64s(zx_segment *segment, const zx_key *key, uint64_t first, uint64_t *row,
+                               size_t count) ZX_NAMED(zx_read_u64s_or_null);
 /* Writes values of the elements' kind, from `first` on: all of them or none. Errors: ZX_NULL_SLICE, ZX_BAD_KIND;
    ZX_READ_ONLY, ZX_NOT_FOUND, ZX_WRONG_KIND, ZX_OUT_OF_RANGE. */
 zx_code zx_write_elements(zx_segment *segment, const zx_key *key, uint64_t first, const zx_values *values);
@@ -458,11 +466,11 @@ zx_code zx_view_of(zx_segment *segment, uint64_t handle, zx_elements *elements);
    ZX_WRONG_KIND. */
 zx_code zx_view_mut(zx_segment *segment, const zx_key *key, zx_elements *elements);
 /* Tells whether the elements are still there: no call has changed the segment since the view. */
-static inline bool zx_is_current(const zx_segment *segment, const zx_elements *elements) {
+ZX_INLINE bool zx_is_current(const zx_segment *segment, const zx_elements *elements) {
     return segment->changes == elements->changes && segment->at;
 }
 /* Returns the address of the first element of a zx_view_mut view, or null if the view is no longer current. */
-static inline void *zx_elements_mut(const zx_segment *segment, const zx_elements *elements) {
+ZX_INLINE void *zx_elements_mut(const zx_segment *segment, const zx_elements *elements) {
     if (!zx_is_current(segment, elements) || !segment->shared) return NULL;
 #ifdef __cplusplus
     return const_cast<void *>(elements->at);
@@ -480,42 +488,42 @@ typedef struct {
 } zx_object;
 
 /* Looks up the object of a key. Errors: ZX_NOT_FOUND, ZX_WRONG_KIND. */
-static inline zx_code zx_look_up(zx_segment *segment, const zx_key *key, zx_object *object);
+ZX_INLINE zx_code zx_look_up(zx_segment *segment, const zx_key *key, zx_object *object);
 /* Returns ZX_DONE if an element of a kind is at `index`. Looks the elements up again if a call has changed the segment.
    Errors: ZX_NOT_FOUND if the object was destroyed, ZX_WRONG_KIND, ZX_OUT_OF_RANGE. */
-static inline zx_code zx_is_at(zx_segment *segment, zx_object *object, uint64_t index, uint32_t kind);
+ZX_INLINE zx_code zx_is_at(zx_segment *segment, zx_object *object, uint64_t index, uint32_t kind);
 /* Reads the element at `index`. The name of the call says the kind. Errors: ZX_NOT_FOUND if the object was destroyed,
    ZX_WRONG_KIND, ZX_OUT_OF_RANGE. */
-static inline zx_code zx_bool_at(zx_segment *segment, zx_object *object, uint64_t index, bool *element);
-static inline zx_code zx_u8_at(zx_segment *segment, zx_object *object, uint64_t index, uint8_t *element);
-static inline zx_code zx_i32_at(zx_segment *segment, zx_object *object, uint64_t index, int32_t *element);
-static inline zx_code zx_i64_at(zx_segment *segment, zx_object *object, uint64_t index, int64_t *element);
-static inline zx_code zx_u64_at(zx_segment *segment, zx_object *object, uint64_t index, uint64_t *element);
+ZX_INLINE zx_code zx_bool_at(zx_segment *segment, zx_object *object, uint64_t index, bool *element);
+ZX_INLINE zx_code zx_u8_at(zx_segment *segment, zx_object *object, uint64_t index, uint8_t *element);
+ZX_INLINE zx_code zx_i32_at(zx_segment *segment, zx_object *object, uint64_t index, int32_t *element);
+ZX_INLINE zx_code zx_i64_at(zx_segment *segment, zx_object *object, uint64_t index, int64_t *element);
+ZX_INLINE zx_code zx_u64_at(zx_segment *segment, zx_object *object, uint64_t index, uint64_t *element);
 
 /* ---- strings
 
    A read copies the bytes to the start of the buffer. With ZX_SHORT_BUFFER `len` is the room that it needs. */
 
-static inline zx_code zx_read_string(zx_segment *segment, const zx_key *key, uint8_t *text, size_t room,
-                                     uint64_t *len) ZX_NAMED(zx_read_string_or_null);
-static inline zx_code zx_assign_string(zx_segment *segment, const zx_key *key, const uint8_t *text,
-                                       size_t len) ZX_NAMED(zx_assign_string_or_null);
-static inline zx_code zx_append(zx_segment *segment, const zx_key *key, const uint8_t *text,
-                                size_t len) ZX_NAMED(zx_append_or_null);
+ZX_INLINE zx_code zx_read_string(zx_segment *segment, const zx_key *key, uint8_t *text, size_t room,
+                                 uint64_t *len) ZX_NAMED(zx_read_string_or_null);
+ZX_INLINE zx_code zx_assign_string(zx_segment *segment, const zx_key *key, const uint8_t *text,
+                                   size_t len) ZX_NAMED(zx_assign_string_or_null);
+ZX_INLINE zx_code zx_append(zx_segment *segment, const zx_key *key, const uint8_t *text,
+                            size_t len) ZX_NAMED(zx_append_or_null);
 
 /* ---- vectors of strings */
 
-static inline zx_code zx_read_text(zx_segment *segment, const zx_key *key, uint64_t index, uint8_t *text, size_t room,
-                                   uint64_t *len) ZX_NAMED(zx_read_text_or_null);
-static inline zx_code zx_set_text(zx_segment *segment, const zx_key *key, uint64_t index, const uint8_t *text,
-                                  size_t len) ZX_NAMED(zx_set_text_or_null);
-static inline zx_code zx_push_text(zx_segment *segment, const zx_key *key, const uint8_t *text,
-                                   size_t len) ZX_NAMED(zx_push_text_or_null);
+ZX_INLINE zx_code zx_read_text(zx_segment *segment, const zx_key *key, uint64_t index, uint8_t *text, size_t room,
+                               uint64_t *len) ZX_NAMED(zx_read_text_or_null);
+ZX_INLINE zx_code zx_set_text(zx_segment *segment, const zx_key *key, uint64_t index, const uint8_t *text,
+                              size_t len) ZX_NAMED(zx_set_text_or_null);
+ZX_INLINE zx_code zx_push_text(zx_segment *segment, const zx_key *key, const uint8_t *text,
+                               size_t len) ZX_NAMED(zx_push_text_or_null);
 zx_code zx_pop_text(zx_segment *segment, const zx_key *key);
-static inline zx_code zx_insert_text(zx_segment *segment, const zx_key *key, uint64_t index, const uint8_t *text,
-                                     size_t len) ZX_NAMED(zx_insert_text_or_null);
-static inline zx_code zx_assign_texts(zx_segment *segment, const zx_key *key, const zx_text *texts,
-                                      size_t count) ZX_NAMED(zx_assign_texts_or_null);
+ZX_INLINE zx_code zx_insert_text(zx_segment *segment, const zx_key *key, uint64_t index, const uint8_t *text,
+                                 size_t len) ZX_NAMED(zx_insert_text_or_null);
+ZX_INLINE zx_code zx_assign_texts(zx_segment *segment, const zx_key *key, const zx_text *texts,
+                                  size_t count) ZX_NAMED(zx_assign_texts_or_null);
 
 /* ---- maps
 
@@ -535,12 +543,12 @@ zx_code zx_map_next(zx_segment *segment, const zx_key *key, const zx_value *afte
 zx_code zx_num_named(zx_segment *segment, uint64_t *count);
 zx_code zx_num_unique(zx_segment *segment, uint64_t *count);
 /* Tells about the named objects, in the order of the bytes of their names, and copies the name as zx_tell does. */
-static inline zx_code zx_named_at(zx_segment *segment, uint64_t index, zx_info *info, uint8_t *name,
-                                  size_t room) ZX_NAMED(zx_named_at_or_null);
+ZX_INLINE zx_code zx_named_at(zx_segment *segment, uint64_t index, zx_info *info, uint8_t *name,
+                              size_t room) ZX_NAMED(zx_named_at_or_null);
 /* Counts the names below a text of any bytes: the index, for zx_named_at, of the first name that is not below it.
    Errors: ZX_NULL_SLICE. */
-static inline zx_code zx_named_from(zx_segment *segment, const uint8_t *text, size_t len,
-                                    uint64_t *index) ZX_NAMED(zx_named_from_or_null);
+ZX_INLINE zx_code zx_named_from(zx_segment *segment, const uint8_t *text, size_t len,
+                                uint64_t *index) ZX_NAMED(zx_named_from_or_null);
 /* Tells about the unique objects, by kind code. */
 zx_code zx_unique_at(zx_segment *segment, uint64_t index, zx_info *info);
 /* Tells about blocks and gaps, by offset. Each call walks from the first one. */
@@ -563,7 +571,7 @@ void zx_words(zx_code code, zx_text *words);
 
 /* ---- null slices: the calls that take a slice are inline functions, which check it and then call what is proved */
 
-static inline bool zx_are_there(const zx_text *texts, size_t count) {
+ZX_INLINE bool zx_are_there(const zx_text *texts, size_t count) {
     if (!texts) return false;
     for (size_t i = 0; i < count; i++)
         if (!texts[i].at) return false;
@@ -572,174 +580,174 @@ static inline bool zx_are_there(const zx_text *texts, size_t count) {
 
 zx_code zx_open_proved(zx_segment *segment, const uint8_t *image, size_t len, uint64_t capacity,
                        uint32_t mode) ZX_NAMED(zx_open);
-static inline zx_code zx_open(zx_segment *segment, const uint8_t *image, size_t len, uint64_t capacity, uint32_t mode) {
+ZX_INLINE zx_code zx_open(zx_segment *segment, const uint8_t *image, size_t len, uint64_t capacity, uint32_t mode) {
     if (!image) return ZX_NULL_SLICE;
     return zx_open_proved(segment, image, len, capacity, mode);
 }
 zx_code zx_open_explained_proved(zx_segment *segment, const uint8_t *image, size_t len, uint64_t capacity,
                                  uint32_t mode, uint64_t *place) ZX_NAMED(zx_open_explained);
-static inline zx_code zx_open_explained(zx_segment *segment, const uint8_t *image, size_t len, uint64_t capacity,
-                                        uint32_t mode, uint64_t *place) {
+ZX_INLINE zx_code zx_open_explained(zx_segment *segment, const uint8_t *image, size_t len, uint64_t capacity,
+                                    uint32_t mode, uint64_t *place) {
     if (!image) return ZX_NULL_SLICE;
     return zx_open_explained_proved(segment, image, len, capacity, mode, place);
 }
 zx_code zx_check_proved(const uint8_t *image, size_t len) ZX_NAMED(zx_check);
-static inline zx_code zx_check(const uint8_t *image, size_t len) {
+ZX_INLINE zx_code zx_check(const uint8_t *image, size_t len) {
     if (!image) return ZX_NULL_SLICE;
     return zx_check_proved(image, len);
 }
 zx_code zx_explain_proved(const uint8_t *image, size_t len, uint64_t *place) ZX_NAMED(zx_explain);
-static inline zx_code zx_explain(const uint8_t *image, size_t len, uint64_t *place) {
+ZX_INLINE zx_code zx_explain(const uint8_t *image, size_t len, uint64_t *place) {
     if (!image) return ZX_NULL_SLICE;
     return zx_explain_proved(image, len, place);
 }
 zx_code zx_save_proved(zx_segment *segment, uint8_t *image, size_t room) ZX_NAMED(zx_save);
-static inline zx_code zx_save(zx_segment *segment, uint8_t *image, size_t room) {
+ZX_INLINE zx_code zx_save(zx_segment *segment, uint8_t *image, size_t room) {
     if (!image) return ZX_NULL_SLICE;
     return zx_save_proved(segment, image, room);
 }
 zx_code zx_attach_proved(zx_segment *segment, zx_memory *memory, uint64_t len, uint32_t mode) ZX_NAMED(zx_attach);
-static inline zx_code zx_attach(zx_segment *segment, zx_memory *memory, uint64_t len, uint32_t mode) {
+ZX_INLINE zx_code zx_attach(zx_segment *segment, zx_memory *memory, uint64_t len, uint32_t mode) {
     if (!memory->at) return ZX_NULL_SLICE;
     return zx_attach_proved(segment, memory, len, mode);
 }
 zx_code zx_attach_explained_proved(zx_segment *segment, zx_memory *memory, uint64_t len, uint32_t mode,
                                    uint64_t *place) ZX_NAMED(zx_attach_explained);
-static inline zx_code zx_attach_explained(zx_segment *segment, zx_memory *memory, uint64_t len, uint32_t mode,
-                                          uint64_t *place) {
+ZX_INLINE zx_code zx_attach_explained(zx_segment *segment, zx_memory *memory, uint64_t len, uint32_t mode,
+                                      uint64_t *place) {
     if (!memory->at) return ZX_NULL_SLICE;
     return zx_attach_explained_proved(segment, memory, len, mode, place);
 }
 zx_code zx_construct_string_proved(zx_segment *segment, const zx_key *key, const uint8_t *text, size_t len,
                                    uint64_t *handle) ZX_NAMED(zx_construct_string);
-static inline zx_code zx_construct_string(zx_segment *segment, const zx_key *key, const uint8_t *text, size_t len,
-                                          uint64_t *handle) {
+ZX_INLINE zx_code zx_construct_string(zx_segment *segment, const zx_key *key, const uint8_t *text, size_t len,
+                                      uint64_t *handle) {
     if (!text) return ZX_NULL_SLICE;
     return zx_construct_string_proved(segment, key, text, len, handle);
 }
 zx_code zx_construct_strings_proved(zx_segment *segment, const zx_key *key, const zx_text *texts, size_t count,
                                     uint64_t *handle) ZX_NAMED(zx_construct_strings);
-static inline zx_code zx_construct_strings(zx_segment *segment, const zx_key *key, const zx_text *texts, size_t count,
-                                           uint64_t *handle) {
+ZX_INLINE zx_code zx_construct_strings(zx_segment *segment, const zx_key *key, const zx_text *texts, size_t count,
+                                       uint64_t *handle) {
     if (!zx_are_there(texts, count)) return ZX_NULL_SLICE;
     return zx_construct_strings_proved(segment, key, texts, count, handle);
 }
 zx_code zx_find_or_construct_string_proved(zx_segment *segment, const zx_key *key, const uint8_t *text, size_t len,
                                            uint64_t *handle, uint32_t *found) ZX_NAMED(zx_find_or_construct_string);
-static inline zx_code zx_find_or_construct_string(zx_segment *segment, const zx_key *key, const uint8_t *text,
-                                                  size_t len, uint64_t *handle, uint32_t *found) {
+ZX_INLINE zx_code zx_find_or_construct_string(zx_segment *segment, const zx_key *key, const uint8_t *text,
+                                              size_t len, uint64_t *handle, uint32_t *found) {
     if (!text) return ZX_NULL_SLICE;
     return zx_find_or_construct_string_proved(segment, key, text, len, handle, found);
 }
 zx_code zx_find_or_construct_strings_proved(zx_segment *segment, const zx_key *key, const zx_text *texts, size_t count,
                                             uint64_t *handle, uint32_t *found) ZX_NAMED(zx_find_or_construct_strings);
-static inline zx_code zx_find_or_construct_strings(zx_segment *segment, const zx_key *key, const zx_text *texts,
-                                                   size_t count, uint64_t *handle, uint32_t *found) {
+ZX_INLINE zx_code zx_find_or_construct_strings(zx_segment *segment, const zx_key *key, const zx_text *texts,
+                                               size_t count, uint64_t *handle, uint32_t *found) {
     if (!zx_are_there(texts, count)) return ZX_NULL_SLICE;
     return zx_find_or_construct_strings_proved(segment, key, texts, count, handle, found);
 }
 zx_code zx_tell_proved(zx_segment *segment, const zx_key *key, zx_info *info, uint8_t *name,
                        size_t room) ZX_NAMED(zx_tell);
-static inline zx_code zx_tell(zx_segment *segment, const zx_key *key, zx_info *info, uint8_t *name, size_t room) {
+ZX_INLINE zx_code zx_tell(zx_segment *segment, const zx_key *key, zx_info *info, uint8_t *name, size_t room) {
     if (!name) return ZX_NULL_SLICE;
     return zx_tell_proved(segment, key, info, name, room);
 }
 zx_code zx_read_string_proved(zx_segment *segment, const zx_key *key, uint8_t *text, size_t room,
                               uint64_t *len) ZX_NAMED(zx_read_string);
-static inline zx_code zx_read_string(zx_segment *segment, const zx_key *key, uint8_t *text, size_t room,
-                                     uint64_t *len) {
+ZX_INLINE zx_code zx_read_string(zx_segment *segment, const zx_key *key, uint8_t *text, size_t room,
+                                 uint64_t *len) {
     if (!text) return ZX_NULL_SLICE;
     return zx_read_string_proved(segment, key, text, room, len);
 }
 zx_code zx_assign_string_proved(zx_segment *segment, const zx_key *key, const uint8_t *text,
                                 size_t len) ZX_NAMED(zx_assign_string);
-static inline zx_code zx_assign_string(zx_segment *segment, const zx_key *key, const uint8_t *text, size_t len) {
+ZX_INLINE zx_code zx_assign_string(zx_segment *segment, const zx_key *key, const uint8_t *text, size_t len) {
     if (!text) return ZX_NULL_SLICE;
     return zx_assign_string_proved(segment, key, text, len);
 }
 zx_code zx_append_proved(zx_segment *segment, const zx_key *key, const uint8_t *text, size_t len) ZX_NAMED(zx_append);
-static inline zx_code zx_append(zx_segment *segment, const zx_key *key, const uint8_t *text, size_t len) {
+ZX_INLINE zx_code zx_append(zx_segment *segment, const zx_key *key, const uint8_t *text, size_t len) {
     if (!text) return ZX_NULL_SLICE;
     return zx_append_proved(segment, key, text, len);
 }
 zx_code zx_read_bools_proved(zx_segment *segment, const zx_key *key, uint64_t first, bool *row,
                              size_t count) ZX_NAMED(zx_read_bools);
-static inline zx_code zx_read_bools(zx_segment *segment, const zx_key *key, uint64_t first, bool *row, size_t count) {
+ZX_INLINE zx_code zx_read_bools(zx_segment *segment, const zx_key *key, uint64_t first, bool *row, size_t count) {
     if (!row) return ZX_NULL_SLICE;
     return zx_read_bools_proved(segment, key, first, row, count);
 }
 zx_code zx_read_u8s_proved(zx_segment *segment, const zx_key *key, uint64_t first, uint8_t *row,
                            size_t count) ZX_NAMED(zx_read_u8s);
-static inline zx_code zx_read_u8s(zx_segment *segment, const zx_key *key, uint64_t first, uint8_t *row, size_t count) {
+ZX_INLINE zx_code zx_read_u8s(zx_segment *segment, const zx_key *key, uint64_t first, uint8_t *row, size_t count) {
     if (!row) return ZX_NULL_SLICE;
     return zx_read_u8s_proved(segment, key, first, row, count);
 }
 zx_code zx_read_i32s_proved(zx_segment *segment, const zx_key *key, uint64_t first, int32_t *row,
                             size_t count) ZX_NAMED(zx_read_i32s);
-static inline zx_code zx_read_i32s(zx_segment *segment, const zx_key *key, uint64_t first, int32_t *row, size_t count) {
+ZX_INLINE zx_code zx_read_i32s(zx_segment *segment, const zx_key *key, uint64_t first, int32_t *row, size_t count) {
     if (!row) return ZX_NULL_SLICE;
     return zx_read_i32s_proved(segment, key, first, row, count);
 }
 zx_code zx_read_i64s_proved(zx_segment *segment, const zx_key *key, uint64_t first, int64_t *row,
                             size_t count) ZX_NAMED(zx_read_i64s);
-static inline zx_code zx_read_i64s(zx_segment *segment, const zx_key *key, uint64_t first, int64_t *row, size_t count) {
+ZX_INLINE zx_code zx_read_i64s(zx_segment *segment, const zx_key *key, uint64_t first, int64_t *row, size_t count) {
     if (!row) return ZX_NULL_SLICE;
     return zx_read_i64s_proved(segment, key, first, row, count);
 }
 zx_code zx_read_u64s_proved(zx_segment *segment, const zx_key *key, uint64_t first, uint64_t *row,
                             size_t count) ZX_NAMED(zx_read_u64s);
-static inline zx_code zx_read_u64s(zx_segment *segment, const zx_key *key, uint64_t first, uint64_t *row,
-                                   size_t count) {
+ZX_INLINE zx_code zx_read_u64s(zx_segment *segment, const zx_key *key, uint64_t first, uint64_t *row,
+                               size_t count) {
     if (!row) return ZX_NULL_SLICE;
     return zx_read_u64s_proved(segment, key, first, row, count);
 }
 zx_code zx_read_text_proved(zx_segment *segment, const zx_key *key, uint64_t index, uint8_t *text, size_t room,
                             uint64_t *len) ZX_NAMED(zx_read_text);
-static inline zx_code zx_read_text(zx_segment *segment, const zx_key *key, uint64_t index, uint8_t *text, size_t room,
-                                   uint64_t *len) {
+ZX_INLINE zx_code zx_read_text(zx_segment *segment, const zx_key *key, uint64_t index, uint8_t *text, size_t room,
+                               uint64_t *len) {
     if (!text) return ZX_NULL_SLICE;
     return zx_read_text_proved(segment, key, index, text, room, len);
 }
 zx_code zx_set_text_proved(zx_segment *segment, const zx_key *key, uint64_t index, const uint8_t *text,
                            size_t len) ZX_NAMED(zx_set_text);
-static inline zx_code zx_set_text(zx_segment *segment, const zx_key *key, uint64_t index, const uint8_t *text,
-                                  size_t len) {
+ZX_INLINE zx_code zx_set_text(zx_segment *segment, const zx_key *key, uint64_t index, const uint8_t *text,
+                              size_t len) {
     if (!text) return ZX_NULL_SLICE;
     return zx_set_text_proved(segment, key, index, text, len);
 }
 zx_code zx_push_text_proved(zx_segment *segment, const zx_key *key, const uint8_t *text,
                             size_t len) ZX_NAMED(zx_push_text);
-static inline zx_code zx_push_text(zx_segment *segment, const zx_key *key, const uint8_t *text, size_t len) {
+ZX_INLINE zx_code zx_push_text(zx_segment *segment, const zx_key *key, const uint8_t *text, size_t len) {
     if (!text) return ZX_NULL_SLICE;
     return zx_push_text_proved(segment, key, text, len);
 }
 zx_code zx_insert_text_proved(zx_segment *segment, const zx_key *key, uint64_t index, const uint8_t *text,
                               size_t len) ZX_NAMED(zx_insert_text);
-static inline zx_code zx_insert_text(zx_segment *segment, const zx_key *key, uint64_t index, const uint8_t *text,
-                                     size_t len) {
+ZX_INLINE zx_code zx_insert_text(zx_segment *segment, const zx_key *key, uint64_t index, const uint8_t *text,
+                                 size_t len) {
     if (!text) return ZX_NULL_SLICE;
     return zx_insert_text_proved(segment, key, index, text, len);
 }
 zx_code zx_assign_texts_proved(zx_segment *segment, const zx_key *key, const zx_text *texts,
                                size_t count) ZX_NAMED(zx_assign_texts);
-static inline zx_code zx_assign_texts(zx_segment *segment, const zx_key *key, const zx_text *texts, size_t count) {
+ZX_INLINE zx_code zx_assign_texts(zx_segment *segment, const zx_key *key, const zx_text *texts, size_t count) {
     if (!zx_are_there(texts, count)) return ZX_NULL_SLICE;
     return zx_assign_texts_proved(segment, key, texts, count);
 }
 zx_code zx_named_at_proved(zx_segment *segment, uint64_t index, zx_info *info, uint8_t *name,
                            size_t room) ZX_NAMED(zx_named_at);
-static inline zx_code zx_named_at(zx_segment *segment, uint64_t index, zx_info *info, uint8_t *name, size_t room) {
+ZX_INLINE zx_code zx_named_at(zx_segment *segment, uint64_t index, zx_info *info, uint8_t *name, size_t room) {
     if (!name) return ZX_NULL_SLICE;
     return zx_named_at_proved(segment, index, info, name, room);
 }
 zx_code zx_named_from_proved(zx_segment *segment, const uint8_t *text, size_t len,
                              uint64_t *index) ZX_NAMED(zx_named_from);
-static inline zx_code zx_named_from(zx_segment *segment, const uint8_t *text, size_t len, uint64_t *index) {
+ZX_INLINE zx_code zx_named_from(zx_segment *segment, const uint8_t *text, size_t len, uint64_t *index) {
     if (!text) return ZX_NULL_SLICE;
     return zx_named_from_proved(segment, text, len, index);
 }
 
-static inline zx_code zx_look_up(zx_segment *segment, const zx_key *key, zx_object *object) {
+ZX_INLINE zx_code zx_look_up(zx_segment *segment, const zx_key *key, zx_object *object) {
     uint8_t name[255];
     zx_info info;
     const zx_code code = zx_tell(segment, key, &info, name, sizeof name);
@@ -752,7 +760,7 @@ static inline zx_code zx_look_up(zx_segment *segment, const zx_key *key, zx_obje
 #else
 #define ZX_AS(type, at) ((type)(at))
 #endif
-static inline zx_code zx_is_at(zx_segment *segment, zx_object *object, uint64_t index, uint32_t kind) {
+ZX_INLINE zx_code zx_is_at(zx_segment *segment, zx_object *object, uint64_t index, uint32_t kind) {
     if (!zx_is_current(segment, &object->there)) {
         const zx_code code = zx_view_of(segment, object->handle, &object->there);
         if (code != ZX_DONE) return code;
@@ -760,27 +768,27 @@ static inline zx_code zx_is_at(zx_segment *segment, zx_object *object, uint64_t 
     if (object->there.kind != kind) return ZX_WRONG_KIND;
     return index < object->there.count ? ZX_DONE : ZX_OUT_OF_RANGE;
 }
-static inline zx_code zx_bool_at(zx_segment *segment, zx_object *object, uint64_t index, bool *element) {
+ZX_INLINE zx_code zx_bool_at(zx_segment *segment, zx_object *object, uint64_t index, bool *element) {
     const zx_code code = zx_is_at(segment, object, index, ZX_BOOL);
     if (code == ZX_DONE) *element = ZX_AS(const bool *, object->there.at)[index];
     return code;
 }
-static inline zx_code zx_u8_at(zx_segment *segment, zx_object *object, uint64_t index, uint8_t *element) {
+ZX_INLINE zx_code zx_u8_at(zx_segment *segment, zx_object *object, uint64_t index, uint8_t *element) {
     const zx_code code = zx_is_at(segment, object, index, ZX_U8);
     if (code == ZX_DONE) *element = ZX_AS(const uint8_t *, object->there.at)[index];
     return code;
 }
-static inline zx_code zx_i32_at(zx_segment *segment, zx_object *object, uint64_t index, int32_t *element) {
+ZX_INLINE zx_code zx_i32_at(zx_segment *segment, zx_object *object, uint64_t index, int32_t *element) {
     const zx_code code = zx_is_at(segment, object, index, ZX_I32);
     if (code == ZX_DONE) *element = ZX_AS(const int32_t *, object->there.at)[index];
     return code;
 }
-static inline zx_code zx_i64_at(zx_segment *segment, zx_object *object, uint64_t index, int64_t *element) {
+ZX_INLINE zx_code zx_i64_at(zx_segment *segment, zx_object *object, uint64_t index, int64_t *element) {
     const zx_code code = zx_is_at(segment, object, index, ZX_I64);
     if (code == ZX_DONE) *element = ZX_AS(const int64_t *, object->there.at)[index];
     return code;
 }
-static inline zx_code zx_u64_at(zx_segment *segment, zx_object *object, uint64_t index, uint64_t *element) {
+ZX_INLINE zx_code zx_u64_at(zx_segment *segment, zx_object *object, uint64_t index, uint64_t *element) {
     const zx_code code = zx_is_at(segment, object, index, ZX_U64);
     if (code == ZX_DONE) *element = ZX_AS(const uint64_t *, object->there.at)[index];
     return code;

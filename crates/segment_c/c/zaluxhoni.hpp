@@ -6,6 +6,8 @@
        shop.vector<std::int64_t>("queue").push_back(1);
        shop.map<std::int32_t, std::int64_t>("prices")[7] = 250;
 
+   `vector`, `map`, `string`, `strings` and `array` are references: a copy refers to the same object of the segment.
+
    A call that the library refuses throws `zaluxhoni::error`, and then nothing has changed, but for `growing`, which is
    several calls. A segment, and all that was asked of it, are used on one thread, one call at a time. */
 #ifndef ZALUXHONI_HPP
@@ -86,9 +88,9 @@ inline const std::error_category &category() noexcept {
 }
 
 /// The base of all errors: `refused`, `file_error` and `outdated`. `code()` is one of ZX_.. in zaluxhoni.h and
-/// zaluxhoni_files.h, or 0 for `outdated`, and `what()` says it in words. Each error that is thrown also derives from an
-/// exception of std: `out_of_range` and `absent` from std::out_of_range, `no_memory` from std::bad_alloc, `outdated` from
-/// std::logic_error, and each other one from std::system_error. These have no base in common but std::exception, and a
+/// zaluxhoni_files.h, or 0 for `outdated`, and `what()` says it in words. Each error that is thrown also derives from
+/// an exception of std: `out_of_range` and `absent` from std::out_of_range, `no_memory` from std::bad_alloc, `outdated`
+/// from std::logic_error, and each other one from std::system_error. These have only std::exception in common, and a
 /// class with two such bases could not be caught as one: so `error` itself has none, but converts to it.
 class error {
   public:
@@ -135,10 +137,11 @@ class as_bad_alloc : public std::bad_alloc {
     const char *what() const noexcept override { return "out of memory"; }
 };
 
+template <zx_code CODE> inline constexpr bool is_out_of_range = CODE == ZX_OUT_OF_RANGE || CODE == ZX_ABSENT;
 template <zx_code CODE>
 using standard_of =
     std::conditional_t<CODE == ZX_NO_MEMORY, as_bad_alloc,
-                       std::conditional_t<CODE == ZX_OUT_OF_RANGE || CODE == ZX_ABSENT, as_out_of_range, as_system_error>>;
+                       std::conditional_t<is_out_of_range<CODE>, as_out_of_range, as_system_error>>;
 
 /// A refusal that is thrown: an exception of std, and `refused`.
 template <class Standard> class refusal : public Standard, public refused {
@@ -259,6 +262,10 @@ using file_log_foreign = file_error_of<ZX_FILE_LOG_FOREIGN>;
 using file_unsure = file_error_of<ZX_FILE_UNSURE>;
 /// A transaction is open: it is saved when it ends, and not before.
 using file_in_step = file_error_of<ZX_FILE_IN_STEP>;
+/// A file that is no log has the name FILE-log, so nothing is committed: remove or rename it.
+using file_log_in_the_way = file_error_of<ZX_FILE_LOG_IN_THE_WAY>;
+/// FILE-log has commits of a file that is gone, so no file is created: put the file back, or remove its log.
+using file_log_left = file_error_of<ZX_FILE_LOG_LEFT>;
 
 /// Throws the error of a code that a file call returned.
 [[noreturn]] inline void throw_file_code(zx_code code, const zx_file &file, const std::string &path) {
@@ -273,8 +280,10 @@ using file_in_step = file_error_of<ZX_FILE_IN_STEP>;
     case ZX_FILE_LOG_FOREIGN: throw file_log_foreign(error, path);
     case ZX_FILE_UNSURE: throw file_unsure(error, path);
     case ZX_FILE_IN_STEP: throw file_in_step(error, path);
+    case ZX_FILE_LOG_IN_THE_WAY: throw file_log_in_the_way(error, path);
+    case ZX_FILE_LOG_LEFT: throw file_log_left(error, path);
     default:
-        if (ZX_FILE_IN_USE <= code && code <= ZX_FILE_IN_STEP) throw file_error(code, error, path);
+        if (ZX_FILE_IN_USE <= code && code <= ZX_FILE_LOG_LEFT) throw file_error(code, error, path);
         throw_code(code, file.place);
     }
 }
@@ -786,8 +795,9 @@ struct state {
         return grow(left < wanted && left >= 32 ? left : wanted);
     }
     zx_code grow(std::uint64_t extra) {
-        viewed.clear();
-        return zx_file_grow(&file, extra);
+        const zx_code code = zx_file_grow(&file, extra);
+        if (code == ZX_DONE) viewed.clear();
+        return code;
     }
 
   private:
@@ -1223,8 +1233,8 @@ template <class T> class value_kept<T, true> {
 };
 
 /// One element. It reads when a value is needed, and writes when one is assigned. It stays valid as long as the
-/// segment. `swap` and `std::iter_swap` swap two elements. `std::swap` would move an element where it has to move a value,
-/// so an element is not moved, and then that does not compile.
+/// segment. `swap` and `std::iter_swap` swap two elements. `std::swap` would move an element where it has to move a
+/// value, so an element is not moved, and then that does not compile.
 template <class Access> class element : private value_kept<typename Access::value_type> {
   public:
     using value_type = typename Access::value_type;
@@ -1588,8 +1598,8 @@ class segment {
     void shrink() { state().check(zx_file_shrink(&state().file)); }
     /// Moves the segment into a region of `capacity` bytes.
     void relocate(std::uint64_t capacity) {
-        state().viewed.clear();
         check_code(zx_relocate(raw(), capacity));
+        state().viewed.clear();
     }
 
     /// Lets the segment grow by itself: a call that finds no space makes it longer by half, and continues. If it cannot
@@ -1597,7 +1607,8 @@ class segment {
     void set_growing(bool grows) { state().grows = grows; }
     [[nodiscard]] bool is_growing() const { return state().grows; }
     /// Runs `call`. Each time it throws `no_space`, makes the segment longer by half and runs it again. If the segment
-    /// cannot grow further, throws `too_large` or `no_memory`; the segment keeps the length that it has by then.
+    /// cannot grow further, throws `too_large` or `no_memory`; the segment keeps the length that it has by then. A
+    /// segment that grows ends its views, so `call` asks for the views that it passes.
     template <class Call> auto growing(Call call) -> decltype(call()) {
         // `call` may assign to this segment, or destroy it
         const std::shared_ptr<detail::state> of = shared();
@@ -1962,9 +1973,10 @@ class group {
 
 // ---- one object
 
-/// The base of all objects: their segment and their handle. After the segment is freed, or the object is moved from,
-/// each call throws `closed`. After the object is destroyed, calls throw `not_found`; once another object has its
-/// handle, they are for that object, or throw `wrong_kind`.
+/// The base of `vector`, `map` and their like: their segment and their handle. They are references: a copy refers to the
+/// same object of the segment. After the segment is freed, or the reference is moved from, each call throws `closed`.
+/// After the object is destroyed, calls throw `not_found`; once another object has its handle, they are for that object,
+/// or throw `wrong_kind`.
 class object {
   public:
     object(std::shared_ptr<detail::state> of, std::uint64_t handle) noexcept : of_(std::move(of)), handle_(handle) {}
@@ -2111,8 +2123,8 @@ template <class Reader, class Access> class row : public Reader {
     using Reader::Reader;
 
     void set(std::uint64_t index, typename Access::passed_type value) const { Access::set(this->here(), index, value); }
-    /// Calls `change` with a copy of the element, and then writes the copy: `v.modify(0, [](item &of) { of.stock++; })`.
-    /// If `change` throws, writes nothing.
+    /// Calls `change` with a copy of the element, and then writes the copy:
+    /// `v.modify(0, [](item &of) { of.stock++; })`. If `change` throws, writes nothing.
     template <class Change> void modify(std::uint64_t index, Change change) const { (*this)[index].modify(change); }
     [[nodiscard]] reference operator[](std::uint64_t index) const { return {this->here(), index}; }
     [[nodiscard]] reference front() const { return (*this)[0]; }

@@ -61,8 +61,9 @@ impl<N> Model for CountedNodes<N> {
     ghost inverse = { λ n. record { nodes = n } };
 }
 
-impl<N> CountedNodes<N> {
-    /// Returns the nodes. No cursor counts what is done with them.
+impl<N: NodesMut> CountedNodes<N> {
+    /// Returns the nodes when a change of a tree ends. No cursor counts what is done with them. Who only reads has no
+    /// such call.
     pub fn into_nodes(self) -> N
         ensures { result ≡ self }
     {

@@ -5,6 +5,7 @@ import os
 import re
 import subprocess
 import sys
+import threading
 
 import pytest
 
@@ -21,6 +22,7 @@ SECONDS = 20
 def pytest_addoption(parser):
     for name in BUILT:
         parser.addoption(f"--{name}", help=f"the {name} to test")
+    parser.addoption("--case", help="the one test of this name, or with these parameters")
     parser.addoption("--all", action="store_true", help="what is skipped is a failure")
 
 
@@ -28,6 +30,12 @@ def pytest_configure(config):
     for name, places in BUILT.items():
         given = config.getoption(name) or next((it for it in places if os.path.exists(it)), places[0])
         os.environ[f"ZALUXHONI_{'FOLDER' if name == 'library' else name.upper()}"] = os.path.realpath(given)
+
+
+def pytest_collection_modifyitems(config, items):
+    case = config.getoption("case")
+    if case:
+        items[:] = [it for it in items if it.name == case or it.name.endswith(f"[{case}]")]
 
 
 def pytest_terminal_summary(terminalreporter, config):
@@ -126,14 +134,43 @@ class Driver:
             "map": ["open write mapped", f"set {number}", "close"],
         }[operation]
 
-    def answer(self, operation, path, number, cwd, **options):
-        return self.ask(self.commands(operation, number), path, cwd, **options)
+    def answer(self, operation, path, number, cwd, event=None, **options):
+        commands = self.commands(operation, number)
+        if event:
+            commands[1:1] = [f"set {number - 1}", "commit", event]
+        return self.ask(commands, path, cwd, **options)
 
     def ask(self, commands, path, cwd, ends=False, **options):
-        """Gives it commands; where it `ends`, it ends behind them as if it were killed."""
-        said = run([*self.words, path], "\n".join([*commands, *["quit"] * ends]) + "\n", cwd=cwd, **options)
-        lines = said.text.splitlines()
-        return Said(said.is_done and len(lines) == len(commands) and all(re.match(r"ok|-?\d+$", it) for it in lines), said.text)
+        """Gives it commands one by one; one that can be called happens between two of them. Where it `ends`, it ends behind
+        them as if it were killed."""
+        process = subprocess.Popen([*self.words, path], stdin=subprocess.PIPE, stdout=subprocess.PIPE, stderr=subprocess.PIPE,
+                                   encoding="utf-8", errors="surrogateescape", cwd=cwd, **options)
+        limit = threading.Timer(SECONDS, process.kill)
+        limit.start()
+        lines = []
+        try:
+            for command in commands:
+                if callable(command):
+                    command()
+                    continue
+                process.stdin.write(f"{command}\n")
+                process.stdin.flush()
+                lines.append(process.stdout.readline().strip())
+                if not re.match(r"ok$|-?\d+$", lines[-1]):
+                    break
+            if ends:
+                process.stdin.write("quit\n")
+        except BrokenPipeError:
+            pass
+        try:
+            err = process.communicate()[1]
+        except BrokenPipeError:
+            err = ""
+        limit.cancel()
+        if process.returncode < 0:
+            lines.append(f"ended by signal {-process.returncode}")
+        is_done = process.returncode == 0 and all(re.match(r"ok$|-?\d+$", it) for it in lines)
+        return Said(is_done, "\n".join([*lines, err]).strip())
 
 
 @pytest.fixture(scope="session")

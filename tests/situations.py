@@ -22,6 +22,9 @@ REASONS = {
     "in the way": r"in the way|not its log|and no log",
     "left": r"commits of a file that is gone",
     "missing": r"[Nn]o such file|[Mm]issing|nothing (exists|has)",
+    "exists": r"exists|directory|folder",
+    "directory": r"directory|folder",
+    "no image": r"[Tt]runcated|image refused|ends too early",
     "denied": r"[Pp]ermission denied|can not be read",
     "full": r"[Nn]o space left|could not be written whole",
     "too large": r"[Ff]ile too large|could not be written whole",
@@ -42,9 +45,11 @@ ALICE, BOB = 60001, 60002
 class Situation:
     """A row: how it is made, in a Place, and the answers."""
 
-    def __init__(self, name, make, answers, keeps=(), ends=(), found=OLD, differs=None, needs=None, user=None, limit=None):
+    def __init__(self, name, make, answers, keeps=(), ends=(), found=OLD, differs=None, needs=None, user=None, limit=None, event=None):
         self.name, self.make, self.answers, self.keeps, self.ends = name, make, answers, keeps, ends
         self.found, self.differs, self.needs, self.user, self.limit = found, differs or {}, needs, user, limit
+        # what happens behind a first commit of a process that has the file open: in C and Python alone
+        self.event = event
 
     def answer(self, operation, language):
         """Returns what an operation answers in a language, or None where it is none of the language's."""
@@ -157,6 +162,66 @@ def file_with_two_names(at):
     os.link(at.file, at.folder + b"/other.seg")
 
 
+def long_log(at):
+    """A log without a record of 4 GiB, of which no byte is on the disk."""
+    plain(at)
+    with open(at.file + b"-log", "wb") as file:
+        file.truncate(4 << 30)
+
+
+def log_of_0_9(at):
+    """A log as 0.9 left it: its gates have no name of the format."""
+    with_log(at)
+    with open(at.file + b"-log", "r+b") as file:
+        for gate in (0, os.path.getsize(at.file + b"-log") - 4096):
+            file.seek(gate + 8)
+            file.write(bytes(16))
+
+
+def through_link(at):
+    """FILE is a link to a file in another directory."""
+    os.mkdir(at.folder + b"/there", 0o777)
+    os.symlink(b"there/inventory.seg", at.file)
+    if at.operation != "create":
+        at.copy("plain", at.folder + b"/there/inventory.seg")
+
+
+def link_with_log(at):
+    through_link(at)
+    at.copy("plain-log", at.folder + b"/there/inventory.seg-log")
+
+
+def empty_file(at):
+    open(at.file, "w").close()
+
+
+def directory_itself(at):
+    os.mkdir(at.file)
+
+
+# -- what happens behind a first commit
+
+def move_log(at):
+    os.rename(at.file + b"-log", at.folder + b"/moved-log")
+
+
+def remove_log(at):
+    os.unlink(at.file + b"-log")
+
+
+def remove_linked_log(at):
+    os.link(at.file + b"-log", at.folder + b"/backup-log")
+    os.unlink(at.file + b"-log")
+
+
+def replace_file(at):
+    """Another file with its log takes both names."""
+    at.copy("plain", at.folder + b"/other")
+    at.copy("plain-log", at.folder + b"/other-log")
+    os.rename(at.folder + b"/other-log", at.file + b"-log")
+    os.rename(at.folder + b"/other", at.file)
+
+
 def closed_directory(at):
     if at.operation != "create":
         plain(at)
@@ -190,6 +255,7 @@ def full(at):
             pass
 
 
+GONE = {"commit": "gone", "checkpoint": "gone"}
 FOREIGN = answers(create="done", commit="in the way", checkpoint="in the way")
 CUT = "a file that is made has its name before it is whole"
 
@@ -213,6 +279,17 @@ SITUATIONS = [
                "checkpoint": "missing", "map": "missing"}, found=None, keeps=["-log"],
               differs={("*", "rust"): ("left", "the inventory is made where it is not there")}),
     Situation("a log without a record, without its file", shut_log_alone, {"create": "done"}, found=None, ends=["-log"]),
+    Situation("a log of 4 GiB without a record", long_log, answers()),
+    Situation("a log that 0.9 left", log_of_0_9, answers(), found=LOGGED),
+    Situation("the log is moved", plain, GONE, event=move_log),
+    Situation("the log is removed", plain, GONE, event=remove_log),
+    Situation("the log is removed and has a second name", plain, GONE, event=remove_linked_log),
+    Situation("another file and its log take the names", plain, GONE, found=LOGGED, event=replace_file),
+    Situation("a link to a file", through_link, answers(), keeps=[""]),
+    Situation("a link to a file with a log", link_with_log, answers(), found=LOGGED, keeps=[""]),
+    Situation("an empty file", empty_file, {**{it: "no image" for it in ALL}, "create": "exists"}, found=None, keeps=[""],
+              differs={("create", "rust"): ("no image", "the inventory opens what is there")}),
+    Situation("a directory", directory_itself, {**{it: "directory" for it in ALL}, "create": "exists"}, found=None, keeps=[""]),
     Situation("a log that has a second name", log_with_two_names, answers(), found=LOGGED),
     Situation("a file that has a second name", file_with_two_names, answers(commit="names", checkpoint="names"),
               differs={(it, language): ("done, alone", "each of its saves gives the name a file of its own")
@@ -235,19 +312,6 @@ SITUATIONS = [
 ]
 
 # what is not yet so: in which languages, in which situations (a pattern), in which operations, and what happens instead
-ANY = "create read open save replace commit checkpoint map"
 KNOWN = [
-    ("program", "has the log's name", "commit checkpoint", "the reason tells of another file, and not what to do"),
-    ("program rust", "a long text has the log's name", "commit checkpoint", "what begins with 4,096 zeros is taken for a log"),
-    ("c python", "text has the log's name|an empty file", "create open save commit checkpoint map", "it is removed, or written over"),
-    ("c python", "(link|link to nothing|pipe|socket) has the log's name", ANY, "it is removed by a creation, and else the file is not opened"),
-    ("c python", "a directory has the log's name", "read open save commit checkpoint map", "the file is not opened"),
-    ("program rust c python", "a log with a record, without", "create", "the log is removed, with the commits of the file that is gone"),
-    ("rust", "a log with a record, without", "replace commit checkpoint", "the log is removed, with the commits of the file that is gone"),
-    ("program rust", "a log without a record, without", "create", "the log stays"),
-    ("program rust", "a file that has a second name", "commit checkpoint", "it is committed, and the other name knows nothing of the log"),
-    ("c python", "a file that has a second name", "commit", "it is committed, and the other name knows nothing of the log"),
-    ("program rust c python", "in a sticky directory", ANY, "nobody looks whose the log is"),
     ("program", "a limit for the length", "save", "a save in place that fails leaves a file that is cut"),
-    ("c", "a limit for the length", "create save commit checkpoint", "the process is ended by a signal"),
 ]

@@ -70,7 +70,7 @@ def cases():
     for situation in SITUATIONS:
         for language, operations in LANGUAGES.items():
             for operation in operations:
-                if operation in situation.answers:
+                if operation in situation.answers and (language in ("c", "python") or not situation.event):
                     known = situation.known_defect(operation, language)
                     marks = [pytest.mark.xfail(reason=known, strict=True)] if known else []
                     yield pytest.param(situation, operation, language, marks=marks, id=f"{situation.name}, {operation}, {language}")
@@ -111,7 +111,11 @@ def compare(situation, operation, language, drivers, at):
     number = OLD if operation == "create" else (found or 0) + ADDS.get(operation, 1)
     kept = [at.file + os.fsencode(it) if it.startswith("-") else at.folder + os.fsencode(it) for it in situation.keeps]
     before, had = {it: shown(it) for it in kept}, shown(at.file)
-    said = drivers[language].answer(operation, os.fsdecode(at.file), number, os.fsdecode(at.folder), **options_of(situation))
+    options = options_of(situation)
+    if situation.event:
+        number += 1
+        options["event"] = lambda: situation.event(at)
+    said = drivers[language].answer(operation, os.fsdecode(at.file), number, os.fsdecode(at.folder), **options)
     wanted, _, more = situation.answer(operation, language).partition(", ")
     assert {it: shown(it) for it in kept} == before, f"it touched what is not its own, and said: {said.text}"
     if wanted == "done":

@@ -1,16 +1,15 @@
-#!/usr/bin/env python3
-# long-chains PROGRAM [CASE]: gives the program images whose links are as long as links can be, in a stack of 256 KB: chains
-# and cycles of 1,000,000 nodes as the free tree and as a map, trees of 2^20 - 1 nodes, and a vector of 1,000,000 strings. What
-# must come of each follows from docs/FORMAT.md: a tree of these nodes is accepted, a chain or a cycle is refused by its
-# class and its place. `check --explain` and `run` must both say so; a run of any segment needs some 300 KB of stack for its
-# buffers, so it gets 512. PROGRAM is what rt makes of crates/segment. It needs python3, works in a folder of its own, and
-# takes 100 MB there.
+"""Gives the program images whose links are as long as links can be, in a stack of 256 KB: chains and cycles of 1,000,000
+nodes as the free tree and as a map, trees of 2^20 - 1 nodes, and a vector of 1,000,000 strings. What must come of each
+follows from docs/FORMAT.md: a tree of these nodes is accepted, a chain or a cycle is refused by its class and its offset.
+`check --explain` and `run` must both say so; a run of any segment needs some 300 KB of stack for its buffers, so it gets
+512. An image takes 100 MB.
+"""
 import os
 import resource
 import subprocess
-import sys
-import tempfile
 from array import array
+
+import pytest
 
 # what a check gets, and a run
 CHECK_STACK, RUN_STACK = 256 * 1024, 512 * 1024
@@ -124,43 +123,21 @@ CASES = [
 
 def answer(stack, *words):
     """Returns the status of the program, and what it prints on both outputs."""
-    done = subprocess.run(words, input=b"size\n", capture_output=True, timeout=110,
+    done = subprocess.run([os.environ["ZALUXHONI_PROGRAM"], *words], input=b"size\n", capture_output=True, timeout=110,
                           preexec_fn=lambda: resource.setrlimit(resource.RLIMIT_STACK, (stack, stack)))
     return done.returncode, done.stdout.decode(), done.stderr.decode()
 
 
-def wrong_in(program, file, refusal, places):
-    """Returns what the program does that it must not do with this file."""
-    size = os.path.getsize(file)
-    checked = answer(CHECK_STACK, program, "check", "--explain", file)
-    run = answer(RUN_STACK, program, "run", file)
+@pytest.mark.parametrize("make, refusal, offsets", [it[1:] for it in CASES], ids=[it[0] for it in CASES])
+def test_image(make, refusal, offsets, tmp_path):
+    file = tmp_path / "it.seg"
+    file.write_bytes(make())
+    checked, run = answer(CHECK_STACK, "check", "--explain", file), answer(RUN_STACK, "run", file)
+    size = file.stat().st_size
+    file.unlink()
     if not refusal:
-        return [it for it, right in ((checked, (0, "ok\n", "")), (run, (0, f"{size}\n", ""))) if it != right]
+        assert checked == (0, "ok\n", "") and run == (0, f"{size}\n", "")
+        return
     line = f"segment: image refused: {refusal} {WORDS[refusal]}\n"
-    wrong = [] if run == (1, "", line) else [run]
-    starts = tuple(f"at {place}: " for place in places)
-    if (checked[0], checked[2]) != (1, line) or not checked[1].startswith(starts):
-        wrong.append(checked)
-    return wrong
-
-
-def main():
-    if len(sys.argv) not in (2, 3) or not os.access(sys.argv[1], os.X_OK):
-        sys.exit("long-chains: give the program that rt makes of crates/segment")
-    program = os.path.realpath(sys.argv[1])
-    failed = 0
-    with tempfile.TemporaryDirectory() as room:
-        file = os.path.join(room, "it.seg")
-        tried = [case for case in CASES if case[0] in sys.argv[2:] or len(sys.argv) == 2]
-        for name, make, refusal, places in tried:
-            with open(file, "wb") as out:
-                out.write(make())
-            wrong = wrong_in(program, file, refusal, places)
-            print(f"{name}: {'wrong: ' + repr(wrong) if wrong else 'as it must be'}")
-            failed += bool(wrong)
-    print(f"long-chains: {len(tried)} images, {failed} wrong")
-    sys.exit(1 if failed or not tried else 0)
-
-
-if __name__ == "__main__":
-    main()
+    assert run == (1, "", line)
+    assert (checked[0], checked[2]) == (1, line) and checked[1].startswith(tuple(f"at {it}: " for it in offsets))

@@ -502,6 +502,22 @@ static bool reboot(void) {
     return open_again(false);
 }
 
+/* The process is killed, and another one saves the file without commits, which may fail, or end before its syncs do. */
+static bool save_by_copy(void) {
+    zx_file_discard(&file);
+    zx_code code = zx_file_open(&file, path, ZX_OPEN_ONLY, 0);
+    if (code != ZX_DONE && !has_failed) say(zx_message(code));
+    if (code == ZX_DONE) {
+        change();
+        add_image();
+        code = zx_file_save(&file);
+        if (code == ZX_DONE) set_image();
+        else if (!has_failed) say(zx_message(code));
+    }
+    zx_file_discard(&file);
+    return open_again(may_count > 1);
+}
+
 static bool act_once(void) {
     uint64_t what = some(20);
     if (what < 8 && may_count < MAY - 1) commit_once();
@@ -524,7 +540,9 @@ static bool act_once(void) {
         // the process is killed
         zx_file_discard(&file);
         return open_again(may_count > 1);
-    } else return what < 19 || reboot();
+    } else if (what < 19) {
+        return may_count < MAY - 1 && save_by_copy();
+    } else return reboot();
     return true;
 }
 
@@ -581,6 +599,19 @@ static void fail_twice(uint64_t first, uint64_t second) {
     end_run();
 }
 
+/* One call of a save without commits fails, and the process ends. The next one commits what it finds, and so answers that
+   it is on the disk. */
+static void fail_in_a_save(uint64_t first) {
+    each_time = 2;
+    begin_run();
+    has_failed = true;
+    fuse = calls + first;
+    if (save_by_copy() && may_count < MAY) commit_once();
+    each_time = 24;
+    at_moment();
+    end_run();
+}
+
 static void run(void) {
     begin_run();
     for (uint64_t acts = 5 + some(40); acts > 0 && states < most_states; acts--) {
@@ -605,6 +636,7 @@ int main(int count, char **words) {
     most_states = strtoull(words[2], NULL, 10);
     uint64_t runs = 0;
     for (uint64_t both = 0; both < 400 && states < most_states && wrong == 0; both++) fail_twice(1 + both / 20, 1 + both % 20);
+    for (uint64_t at = 0; at < 100 && states < most_states && wrong == 0; at++) fail_in_a_save(1 + at % 12);
     while (states < most_states && wrong == 0) run(), runs++;
     (unlinkat)(AT_FDCWD, path, 0);
     (unlinkat)(AT_FDCWD, log_path, 0);

@@ -237,17 +237,12 @@ SITUATIONS = [
 # what is not yet so: in which languages, in which situations (a pattern), in which operations, and what happens instead
 ANY = "create read open save replace commit checkpoint map"
 KNOWN = [
-    ("program", "has the log's name", "commit checkpoint", "the reason tells of another file, and not what to do"),
-    ("program rust", "a long text has the log's name", "commit checkpoint", "what begins with 4,096 zeros is taken for a log"),
     ("c python", "text has the log's name|an empty file", "create open save commit checkpoint map", "it is removed, or written over"),
     ("c python", "(link|link to nothing|pipe|socket) has the log's name", ANY, "it is removed by a creation, and else the file is not opened"),
     ("c python", "a directory has the log's name", "read open save commit checkpoint map", "the file is not opened"),
-    ("program rust c python", "a log with a record, without", "create", "the log is removed, with the commits of the file that is gone"),
-    ("rust", "a log with a record, without", "replace commit checkpoint", "the log is removed, with the commits of the file that is gone"),
-    ("program rust", "a log without a record, without", "create", "the log stays"),
-    ("program rust", "a file that has a second name", "commit checkpoint", "it is committed, and the other name knows nothing of the log"),
+    ("c python", "a log with a record, without", "create", "the log is removed, with the commits of the file that is gone"),
     ("c python", "a file that has a second name", "commit", "it is committed, and the other name knows nothing of the log"),
-    ("program rust c python", "in a sticky directory", ANY, "nobody looks whose the log is"),
+    ("c python", "in a sticky directory", ANY, "nobody looks whose the log is"),
     ("program", "a limit for the length", "save", "a save in place that fails leaves a file that is cut"),
     ("c", "a limit for the length", "create save commit checkpoint", "the process is ended by a signal"),
 ]

@@ -27,10 +27,12 @@ static uint8_t *copy_views(const struct mapping *old, const zx_memory *views, si
     return copy;
 }
 
-/* Puts the copy in the place of a mapping, which ends. `left` gets the addresses, for munmap. */
+/* Puts the copy in the place of a mapping, which ends. `left` gets the addresses, for munmap. If the system has no more
+   mappings, the views keep the old one. */
 static void leave_copy(const struct mapping *old, uint8_t *copy, zx_memory *left) {
     // in one call, so that no other thread finds nothing there
-    if ((mremap)(copy, old->len, old->len, MREMAP_MAYMOVE | MREMAP_FIXED, old->at) == MAP_FAILED) return;
+    bool is_moved = (mremap)(copy, old->len, old->len, MREMAP_MAYMOVE | MREMAP_FIXED, old->at) != MAP_FAILED;
+    if (!is_moved) munmap(copy, old->len);
     if (old->room > old->len) munmap(old->at + old->len, old->room - old->len);
     *left = (zx_memory){ old->at, old->len };
 }

@@ -184,6 +184,18 @@ B get: 6
 B discard: ok
 left file
 
+= a child of Python changes nothing either
+do seed 5
+A open open_only 0: ok
+A fork 0 get, 0 set 9, 0 save, 0 close, 0 discard: 5, forked, forked, forked, ok
+B open open_only 0: in_use
+A set 6: ok
+A close: ok
+B open open_only 0: ok
+B get: 6
+B discard: ok
+left file
+
 = a child opens what its parent has closed
 do seed 5
 A open open_only 0: ok
@@ -826,9 +838,11 @@ def goes(lines, peers):
         return False
     if any(line.startswith("do limit") for line in lines) and isinstance(peers["A"], Program):
         return False
-    # Python saves to a new name alone
-    if any(line.startswith("A saveas open_only") for line in lines) and not isinstance(peers["A"], Program) \
-            and any("python" in word for word in peers["A"].command):
+    # Python saves to a new name alone, and in a child it refuses a change, where C and C++ change a copy
+    is_python = not isinstance(peers["A"], Program) and any("python" in word for word in peers["A"].command)
+    if any(line.startswith("A saveas open_only") for line in lines) and is_python:
+        return False
+    if any("5, ok, forked" in line if is_python else "5, forked, forked, forked" in line for line in lines):
         return False
     # a file that the program makes is there when all of it is written
     makes = "A open open_or_create", "A open create_only"

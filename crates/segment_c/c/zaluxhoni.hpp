@@ -720,10 +720,14 @@ struct viewed_bytes {
     }
     void clear() noexcept { *this = viewed_bytes(); }
 
-    [[nodiscard]] bool has(std::string_view text) const noexcept { return meets(text.data(), text.size()); }
-    [[nodiscard]] bool has(const texts &list) const noexcept {
-        return std::any_of(list.data(), list.data() + list.size(),
-                           [&](const zx_text &each) { return meets(each.at, each.len); });
+    /// Make a call with a text, or with texts; with a copy if they are among these bytes.
+    template <class Call> auto detach(std::string_view text, Call call) const {
+        return meets(text.data(), text.size()) ? call(std::string_view(std::string(text))) : call(text);
+    }
+    template <class Call> auto detach(const texts &list, Call call) const {
+        const auto is_viewed = [&](const zx_text &each) { return meets(each.at, each.len); };
+        const bool is_any = std::any_of(list.data(), list.data() + list.size(), is_viewed);
+        return is_any ? call(texts(list.copies())) : call(list);
     }
     /// Copies elements that are among these bytes.
     template <class T> void detach(slice<T> &values) const {
@@ -1129,8 +1133,8 @@ struct lines {
         });
     }
     static void set(const spot &of, std::uint64_t index, std::string_view text) {
-        if (of.of->viewed.has(text)) return set(of, index, std::string(text));
-        of.change(zx_set_text, index, bytes_of(text), text.size());
+        of.of->viewed.detach(
+            text, [&](std::string_view own) { of.change(zx_set_text, index, bytes_of(own), own.size()); });
     }
 };
 
@@ -1672,12 +1676,12 @@ class segment {
         return made(zx_construct_vector, at, &passed);
     }
     std::uint64_t construct_string(const key &at, std::string_view text) {
-        if (state().viewed.has(text)) return construct_string(at, std::string(text));
-        return made(zx_construct_string, at, bytes_of(text), text.size());
+        return state().viewed.detach(
+            text, [&](std::string_view own) { return made(zx_construct_string, at, bytes_of(own), own.size()); });
     }
     std::uint64_t construct_strings(const key &at, const texts &list = {}) {
-        if (state().viewed.has(list)) return construct_strings(at, list.copies());
-        return made(zx_construct_strings, at, list.data(), list.size());
+        return state().viewed.detach(
+            list, [&](const texts &own) { return made(zx_construct_strings, at, own.data(), own.size()); });
     }
     template <class K, class V> std::uint64_t construct_map(const key &at) {
         static_cast<void>(kind_of<std::map<K, V>>);
@@ -2432,12 +2436,12 @@ class string : public detail::row<const_string, detail::values<std::uint8_t>> {
     using row::row;
 
     void assign(std::string_view text) const {
-        if (viewed().has(text)) return assign(std::string(text));
-        spot().change(zx_assign_string, bytes_of(text), text.size());
+        viewed().detach(
+            text, [&](std::string_view own) { spot().change(zx_assign_string, bytes_of(own), own.size()); });
     }
     void append(std::string_view text) const {
-        if (viewed().has(text)) return append(std::string(text));
-        spot().lengthen(text.size(), zx_append, bytes_of(text), text.size());
+        viewed().detach(
+            text, [&](std::string_view own) { spot().lengthen(own.size(), zx_append, bytes_of(own), own.size()); });
     }
     const string &operator+=(std::string_view text) const {
         append(text);
@@ -2467,8 +2471,8 @@ class strings : public detail::row<const_strings, detail::lines> {
     using row::iterator, row::const_iterator, row::reference;
 
     void push_back(std::string_view text) const {
-        if (viewed().has(text)) return push_back(std::string_view(std::string(text)));
-        spot().change(zx_push_text, bytes_of(text), text.size());
+        viewed().detach(
+            text, [&](std::string_view own) { spot().change(zx_push_text, bytes_of(own), own.size()); });
     }
     void push_back(const reference &element) const { push_back(std::string_view(element.value())); }
     /// Removes the last string, and returns it. Throws `out_of_range` for an empty vector.
@@ -2479,8 +2483,8 @@ class strings : public detail::row<const_strings, detail::lines> {
     }
     /// Inserts a string, or several, before `index`, which may be the size.
     void insert(std::uint64_t index, std::string_view text) const {
-        if (viewed().has(text)) return insert(index, std::string_view(std::string(text)));
-        spot().change(zx_insert_text, index, bytes_of(text), text.size());
+        viewed().detach(
+            text, [&](std::string_view own) { spot().change(zx_insert_text, index, bytes_of(own), own.size()); });
     }
     void insert(std::uint64_t index, const reference &element) const {
         insert(index, std::string_view(element.value()));
@@ -2520,8 +2524,8 @@ class strings : public detail::row<const_strings, detail::lines> {
         return at_index(first.index());
     }
     void assign(const texts &list) const {
-        if (viewed().has(list)) return assign(list.copies());
-        spot().change(zx_assign_texts, list.data(), list.size());
+        viewed().detach(
+            list, [&](const texts &own) { spot().change(zx_assign_texts, own.data(), own.size()); });
     }
     void reserve(std::uint64_t places) const { spot().change(zx_reserve, places); }
     void shrink_to_fit() const { spot().ask(zx_trim); }
@@ -2893,13 +2897,15 @@ found_object<vector<T>> segment::find_or_construct_vector(const key &at, slice<T
     return {had, zaluxhoni::vector<T>(state_, had.handle)};
 }
 inline found_object<string> segment::find_or_construct_string(const key &at, std::string_view text) {
-    if (state().viewed.has(text)) return find_or_construct_string(at, std::string(text));
-    const found had = found_or_made(zx_find_or_construct_string, at, bytes_of(text), text.size());
+    const found had = state().viewed.detach(text, [&](std::string_view own) {
+        return found_or_made(zx_find_or_construct_string, at, bytes_of(own), own.size());
+    });
     return {had, zaluxhoni::string(state_, had.handle)};
 }
 inline found_object<strings> segment::find_or_construct_strings(const key &at, const texts &list) {
-    if (state().viewed.has(list)) return find_or_construct_strings(at, list.copies());
-    const found had = found_or_made(zx_find_or_construct_strings, at, list.data(), list.size());
+    const found had = state().viewed.detach(list, [&](const texts &own) {
+        return found_or_made(zx_find_or_construct_strings, at, own.data(), own.size());
+    });
     return {had, zaluxhoni::strings(state_, had.handle)};
 }
 template <class K, class V> found_object<map<K, V>> segment::find_or_construct_map(const key &at) {

@@ -644,6 +644,19 @@ void views_that_are_passed() {
     THROWS(bad_size, s.relocate(7));
     text.append(there);
     IS(text.size() == 2000 && text.view().substr(1000, 500) == std::string(500, 'a') && text.ends_with("b"));
+    // texts of the program may be where the segment was
+    segment moves = segment::create(1 << 16);
+    moves.string("text").assign(std::string(60000, 'c'));
+    IS(moves.string("text").view().size() == 60000);
+    IS(zx_grow(moves.raw(), 1 << 22) == ZX_DONE);
+    std::vector<std::string> kept;
+    for (int n = 0; n < 1000; n++) {
+        kept.push_back(std::string(200, static_cast<char>('a' + n % 26)));
+        moves.strings("list").push_back(kept.back());
+    }
+    IS(moves.strings("list") == kept);
+    moves.strings("more").assign(kept);
+    IS(moves.strings("more") == kept);
 }
 
 /// Iterators read and write elements where they are, until a call changes the segment; then they find the object anew.

@@ -473,8 +473,9 @@ def beside_views(named):
     """Opens a file again and again, and ends it in each way, while views of it stay."""
     vectors, views = {"a": [1, 2], "b": [3] * 1000}, []
     file = path + ".views"
-    if os.path.exists(file):
-        os.unlink(file)
+    for each in (file, f"{file}-log"):
+        if os.path.exists(each):
+            os.unlink(each)
     with zaluxhoni.open(file, "x", size=chance.choice((65536, 1 << 20))) as segment:
         segment.update(vectors)
     for _ in range(passes):

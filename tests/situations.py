@@ -4,7 +4,8 @@ programs alike: `program` (segment), `rust`, `c` and `python`.
 The operations are those of tests/conftest.py: create FILE; read it; open it for writing and change nothing; save in the
 way that is the default; save by replacing the file; commit to its log; commit, and then make the log the file; map.
 An answer is `done`, and then FILE has the new number, or the reason of a refusal (a word of REASONS), and then FILE has the
-number that it had; with `cut` behind the reason it is there, and not whole; with `alone` behind `done` the file has one name. What `keeps` names stays as it was, whatever the answer is; what `ends` names is gone where it is `done`.
+number that it had; with `cut` behind the reason it is there, and not whole; with `alone` behind `done` the file has one name; with `committed` behind a reason FILE and its log have the new number. What
+`keeps` names stays as it was, whatever the answer is; what `ends` names is gone where it is `done`.
 Where a language differs, `differs` says how and why. What is not yet so stands in KNOWN: such a case fails, and where it does
 not any more, it is told as a failure until its line there is gone.
 """
@@ -12,6 +13,7 @@ import os
 import re
 import shutil
 import socket
+import subprocess
 
 # what is found: FILE's number, and the one that its log has
 OLD, LOGGED = 250, 251
@@ -26,6 +28,8 @@ REASONS = {
     "directory": r"directory|folder",
     "no image": r"[Tt]runcated|image refused|ends too early",
     "denied": r"[Pp]ermission denied|can not be read",
+    "read only": r"[Rr]ead-only file system|could not be written whole",
+    "busy": r"[Dd]evice or resource busy|could not be written whole",
     "full": r"[Nn]o space left|could not be written whole",
     "too large": r"[Ff]ile too large|could not be written whole",
     "names": r"several names",
@@ -38,16 +42,19 @@ ALL = ("create", "read", "open", "save", "replace", "commit", "checkpoint", "map
 # which each has: the saves of C and Python always replace the file, only they map, and the inventory saves in these ways alone
 LANGUAGES = {"program": ALL[:7], "rust": ("create", "replace", "commit", "checkpoint"), "c": (*ALL[:4], *ALL[5:]),
              "python": (*ALL[:4], *ALL[5:])}
-# the first users that no system has
-ALICE, BOB = 60001, 60002
+# users and a group that no system has
+ALICE, BOB, CLUB = 60001, 60002, 60003
 
 
 class Situation:
     """A row: how it is made, in a Place, and the answers."""
 
-    def __init__(self, name, make, answers, keeps=(), ends=(), found=OLD, differs=None, needs=None, user=None, limit=None, event=None):
+    def __init__(self, name, make, answers, keeps=(), ends=(), found=OLD, differs=None, needs=None, user=None, limit=None, event=None,
+                 outsider=None):
         self.name, self.make, self.answers, self.keeps, self.ends = name, make, answers, keeps, ends
         self.found, self.differs, self.needs, self.user, self.limit = found, differs or {}, needs, user, limit
+        # a user and a group: who they are may read neither FILE nor its log, before and after
+        self.outsider = outsider
         # what happens behind a first commit of a process that has the file open: in C and Python alone
         self.event = event
 
@@ -199,6 +206,46 @@ def directory_itself(at):
     os.mkdir(at.file)
 
 
+# -- who may do what
+
+def with_rights(mode, log_mode=None, file_list=None, folder_list=None):
+    """FILE of root and the club with these rights, or also its log; and access lists of the file and its directory."""
+    def make(at):
+        (plain if log_mode is None else with_log)(at)
+        os.chown(at.file, 0, CLUB)
+        os.chmod(at.file, mode)
+        if log_mode is not None:
+            os.chown(at.file + b"-log", 0, CLUB)
+            os.chmod(at.file + b"-log", log_mode)
+        for path, entries in ((at.file, file_list), (at.folder, folder_list)):
+            if entries:
+                subprocess.run(["setfacl", *entries.split(), os.fsdecode(path)], check=True)
+    return make
+
+
+def read_only_disk(at):
+    at.mount()
+    plain_or_none(at)
+    subprocess.run(["mount", "-o", "remount,ro", os.fsdecode(at.folder)], check=True)
+
+
+def overlay(at):
+    """FILE is in the lower layer of an overlay."""
+    at.mount(size="2m")
+    for name in (b"/lower", b"/upper", b"/work", b"/all"):
+        os.mkdir(at.folder + name)
+    at.copy("plain", at.folder + b"/lower/inventory.seg")
+    at.mount_more("-t", "overlay", "overlay", "-o", "lowerdir=lower,upperdir=upper,workdir=work", "all")
+    at.file = at.folder + b"/all/inventory.seg"
+
+
+def mounted_file(at):
+    """FILE is mounted from elsewhere, as a container has it."""
+    at.copy("plain", at.folder + b"/elsewhere.seg")
+    open(at.file, "w").close()
+    at.mount_more("--bind", "elsewhere.seg", "inventory.seg")
+
+
 # -- what happens behind a first commit
 
 def move_log(at):
@@ -290,6 +337,19 @@ SITUATIONS = [
     Situation("an empty file", empty_file, {**{it: "no image" for it in ALL}, "create": "exists"}, found=None, keeps=[""],
               differs={("create", "rust"): ("no image", "the inventory opens what is there")}),
     Situation("a directory", directory_itself, {**{it: "directory" for it in ALL}, "create": "exists"}, found=None, keeps=[""]),
+    Situation("a file that its owner alone may read", with_rights(0o600), answers(), needs="root", outsider=(BOB, BOB)),
+    Situation("a file that its group may not read", with_rights(0o604), answers(), needs="root", outsider=(BOB, CLUB)),
+    Situation("a log that more may read than its file", with_rights(0o600, 0o644), answers(), found=LOGGED, needs="root",
+              outsider=(BOB, BOB)),
+    Situation("an access list that keeps the group out", with_rights(0o600, None, f"-m u:{ALICE}:rw,g::---,m::rw"), answers(),
+              needs="setfacl", outsider=(BOB, CLUB)),
+    Situation("a directory that gives a list to new files", with_rights(0o600, None, None, f"-d -m u:{BOB}:rw"), answers(),
+              needs="setfacl", outsider=(BOB, BOB)),
+    Situation("a disk that is only read", read_only_disk, {**{it: "read only" for it in ALL}, "read": "done"}, needs="root"),
+    Situation("a file in the lower layer of an overlay", overlay, answers(), needs="root"),
+    Situation("a file that is mounted", mounted_file, answers(replace="busy", save="busy", checkpoint="busy, committed"), needs="root",
+              differs={("save", "program"): ("done", "its save is in place, and needs no name"),
+                       ("commit", "rust"): ("busy, committed", "a checkpoint follows")}),
     Situation("a log that has a second name", log_with_two_names, answers(), found=LOGGED),
     Situation("a file that has a second name", file_with_two_names, answers(commit="names", checkpoint="names"),
               differs={(it, language): ("done, alone", "each of its saves gives the name a file of its own")
@@ -313,5 +373,7 @@ SITUATIONS = [
 
 # what is not yet so: in which languages, in which situations (a pattern), in which operations, and what happens instead
 KNOWN = [
+    ("program rust", "an access list that keeps", "replace commit checkpoint",
+     "std shows no lists, so what a list lets others do at most becomes the group's rights"),
     ("program", "a limit for the length", "save", "a save in place that fails leaves a file that is cut"),
 ]

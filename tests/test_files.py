@@ -17,7 +17,7 @@ class Place:
     """A folder in which a situation is made."""
 
     def __init__(self, operation, made):
-        self.folder, self.operation, self.made, self.is_mounted = os.fsencode(tempfile.mkdtemp()), operation, made, False
+        self.folder, self.operation, self.made, self.mounted = os.fsencode(tempfile.mkdtemp()), operation, made, []
         os.chmod(self.folder, 0o777)
         self.file = self.folder + b"/inventory.seg"
 
@@ -26,13 +26,19 @@ class Place:
         shutil.copyfile(os.fsencode(self.made[name]), path)
         os.chmod(path, 0o644)
 
-    def mount(self):
-        subprocess.run(["mount", "-t", "tmpfs", "-o", "size=256k,mode=777", "none", os.fsdecode(self.folder)], check=True)
-        self.is_mounted = True
+    def mount(self, size="256k"):
+        """Mounts a disk in memory as the folder."""
+        self.mount_more("-t", "tmpfs", "-o", f"size={size},mode=777", "none", os.fsdecode(self.folder))
+
+    def mount_more(self, *words):
+        """Mounts what stands last in the folder."""
+        if subprocess.run(["mount", *words], cwd=self.folder, capture_output=True).returncode:
+            pytest.skip(f"mount {' '.join(words[:2])}: the system refuses it")
+        self.mounted.insert(0, os.path.join(os.fsdecode(self.folder), words[-1]))
 
     def end(self):
-        if self.is_mounted:
-            subprocess.run(["umount", "-l", os.fsdecode(self.folder)], check=True)
+        for it in self.mounted:
+            subprocess.run(["umount", "-l", it], check=True)
         shutil.rmtree(self.folder, ignore_errors=True)
 
 
@@ -90,14 +96,22 @@ def options_of(situation):
 def test_case(situation, operation, language, drivers, made):
     if language not in drivers:
         pytest.skip(f"there is no program for {language}")
-    if situation.needs == "root" and os.geteuid() != 0:
+    if situation.needs and os.geteuid() != 0:
         pytest.skip("only root mounts disks and is other users")
+    if situation.needs not in (None, "root") and not shutil.which(situation.needs):
+        pytest.skip(f"there is no {situation.needs}")
     at = Place(operation, made)
     try:
         situation.make(at)
         compare(situation, operation, language, drivers, at)
     finally:
         at.end()
+
+
+def may_read(path, user, group):
+    """Returns true if a user of a group may read what is there."""
+    words = ["setpriv", f"--reuid={user}", f"--regid={group}", "--clear-groups", "test", "-r", os.fsdecode(path)]
+    return subprocess.run(words, check=False).returncode == 0
 
 
 def number_in(said):
@@ -116,6 +130,10 @@ def compare(situation, operation, language, drivers, at):
         number += 1
         options["event"] = lambda: situation.event(at)
     said = drivers[language].answer(operation, os.fsdecode(at.file), number, os.fsdecode(at.folder), **options)
+    if situation.outsider:
+        assert not may_read(at.file, *situation.outsider), "somebody may read the file who could not"
+        log = at.file + b"-log"
+        assert operation in ("read", "open") or not may_read(log, *situation.outsider), "somebody may read the log who could not"
     wanted, _, more = situation.answer(operation, language).partition(", ")
     assert {it: shown(it) for it in kept} == before, f"it touched what is not its own, and said: {said.text}"
     if wanted == "done":
@@ -128,7 +146,7 @@ def compare(situation, operation, language, drivers, at):
         assert number_in(said) == number, said.text
     reader = drivers["program" if situation.answer("read", "program") != "path" else "c"]
     reads = reader.answer("read", os.fsdecode(at.file), 0, os.fsdecode(at.folder))
-    if wanted == "done":
+    if wanted == "done" or more == "committed":
         assert number_in(reads) == number, f"afterwards it is found: {reads.text}"
         assert not any(shown(at.file + os.fsencode(it)) for it in situation.ends), "what should be gone is there"
         assert more != "alone" or os.stat(at.file).st_nlink == 1, "it has another name"

@@ -384,7 +384,8 @@ static void save_one(struct model *of, bool closes) {
     zx_code code = closes ? zx_file_close(&of->file) : zx_file_save(&of->file);
     bool is_saved = was_open && of->is_written && is_done(code);
     bool is_certain = was_open && of->is_written && !is_disturbed && !of->is_unsure;
-    if (is_certain && is_done(code) != was_home) fail("home and code differ", (int)code);
+    // in a transaction nothing is saved
+    if (is_certain && is_done(code) != (was_home && !of->is_in_step)) fail("home and code differ", (int)code);
     check(before, of->name, of->number, was_open && of->is_written, is_saved, of->is_mapped);
     if (is_saved && !closes && !of->is_mapped) note_inode(of);
 }
@@ -511,8 +512,7 @@ static void do_one(int what, struct input *input) {
     case 4: case 5: save_one(of, false); break;
     case 6:
         save_one(of, true);
-        // the end of a mapped file whose cut failed has ended the transaction too
-        if (!of->file.held || (of->is_mapped && is_disturbed)) leave_step(of);
+        if (!of->file.held) leave_step(of);
         break;
     case 7:
         zx_file_discard(&of->file);

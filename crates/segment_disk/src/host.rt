@@ -14,7 +14,7 @@ use crate::open_log::OpenLog;
 use crate::paths::{copy_path, real_path};
 use crate::presence::{AlreadyLocked, Comparison, FileProblem, NotOpened, Presence, SaveMode};
 use crate::replacement_file::ReplacementFile;
-use crate::settling::{end_left, keeps_records, named_for_good, put_in_place, settle};
+use crate::settling::{end_left, keeps_records, named_alone, put_in_place, settle};
 use crate::spare_file::{SpareFile, open_folder, sync_folder};
 use crate::sparse::{SparseFile, longest_file};
 use crate::std_output::StdOutput;
@@ -48,6 +48,8 @@ pub struct HostDisk<'a, R: Files> {
     held: Option<Identity>,
     /// The file that was made last, and has no name yet.
     unnamed: Option<UnnamedFile>,
+    /// The folder of the file that was made last, and has its name, until that is synced.
+    folder: Option<File>,
 }
 
 /// A file that gets its name when it is whole.
@@ -113,6 +115,7 @@ impl<'a, R: Files> HostDisk<'a, R> {
             trouble: None,
             held: None,
             unnamed: None,
+            folder: None,
         }
     }
 
@@ -171,7 +174,8 @@ impl<'a, R: Files<File = File> + AllocGlobal + Clock> HostDisk<'a, R> {
             Err(error) => return Err(creation_problem(error.kind(), path)),
         };
         hold.lock = lock_made(self.files, &file).map_err(trouble_of)?;
-        named_for_good(self.files, path, &file, &folder)?;
+        named_alone(self.files, path, &file)?;
+        self.folder = Some(folder);
         Ok(file)
     }
 
@@ -201,6 +205,14 @@ impl<'a, R: Files<File = File> + AllocGlobal + Clock> HostDisk<'a, R> {
         Ok(file)
     }
 
+    /// Syncs the folder of a file that was made under its name, and returns true unless that fails.
+    fn is_name_synced(&mut self) -> bool {
+        match self.folder.take() {
+            Some(folder) => sync_file(&folder),
+            None => true,
+        }
+    }
+
     /// Gives a file its name that is whole and has none, and removes it otherwise.
     fn name(&mut self, unnamed: UnnamedFile, is_whole: bool) -> Result<(), DeviceFault> {
         let UnnamedFile {
@@ -216,8 +228,9 @@ impl<'a, R: Files<File = File> + AllocGlobal + Clock> HostDisk<'a, R> {
             spare.discard(self.files);
             return Err(self.not_written(creation_problem(error.kind(), path.as_str())));
         }
-        match named_for_good(self.files, path.as_str(), spare.file(), &folder) {
-            Ok(()) => Ok(()),
+        match named_alone(self.files, path.as_str(), spare.file()) {
+            Ok(()) if sync_file(&folder) => Ok(()),
+            Ok(()) => Err(self.not_written(None)),
             Err(trouble) => Err(self.not_written(trouble)),
         }
     }
@@ -517,7 +530,8 @@ impl<'a, R: Files<File = File> + AllocGlobal + Clock> Disk for HostDisk<'a, R> {
 
     fn sync_and_close(&mut self, writer: StdOutput<SparseFile>) -> Result<(), DeviceFault> {
         let written = writer.inner();
-        let lasts = written.end().is_ok() && sync_file(written.file());
+        let is_written = written.end().is_ok() && sync_file(written.file());
+        let lasts = is_written && self.is_name_synced();
         match self.unnamed.take() {
             Some(unnamed) => self.name(unnamed, lasts && writer.is_sound()),
             None if lasts && writer.is_sound() => Ok(()),

@@ -6,6 +6,7 @@ ghost use Rattle.segment_disk.specs.declared.locks.Identity.{Identity};
 use crate::file_problems::locks_nothing;
 use std::fs::{self, File, Metadata, OpenOptions, TryLockError};
 use std::io::{self, ErrorKind, Read};
+use std::os::fd::AsRawFd;
 use std::os::unix::fs::MetadataExt;
 use std::rt::Files;
 use std::thread::sleep;
@@ -195,17 +196,23 @@ fn ask(file: &File) -> io::Result<LockAnswer> {
     Err(io::Error::from(ErrorKind::Interrupted))
 }
 
+/// Returns true if a file has the number of a standard stream that is closed: what is printed would be written to it.
+fn is_standard(file: &File) -> bool {
+    file.as_raw_fd() <= 2
+}
+
 /// Opens a file on a disk to lock it: for writing if that may be, since a file that is open for reading alone can't be
 /// locked everywhere.
 pub(crate) fn open_to_hold<R: Files<File = File>>(files: &R, path: &str) -> io::Result<File> {
     let mut options = OpenOptions::new();
     options.read(true).write(true);
-    if let Ok(file) = options.open(files, path) {
-        return Ok(file);
-    }
-    match open_to_write(files, path) {
+    let found = match options.open(files, path) {
         Ok(file) => Ok(file),
-        Err(_) => fs::open(files, path),
+        Err(_) => open_to_write(files, path),
+    };
+    match found {
+        Ok(file) if !is_standard(&file) => Ok(file),
+        _ => fs::open(files, path),
     }
 }
 

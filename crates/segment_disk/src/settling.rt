@@ -242,33 +242,28 @@ pub(crate) fn end_left<R: Files<File = File> + AllocGlobal>(
     }
 }
 
-/// Returns true if a file that is locked has its name, no log with records is beside it, and its name is on the disk.
-fn is_named_alone<R: Files<File = File> + AllocGlobal>(
+/// Returns an error if another file has taken the name of a file that was made and is locked, or if a log with records
+/// is beside it.
+fn look_alone<R: Files<File = File> + AllocGlobal>(
     rt: &R,
     path: &str,
     file: &File,
-    folder: &File,
-) -> Result<bool, LogTrouble> {
+) -> Result<(), LogTrouble> {
     if !is_named(rt, path, file) {
         return Err(Some(FileProblem::Exists));
     }
-    end_left(rt, path)?;
-    Ok(sync_file(folder))
+    end_left(rt, path)
 }
 
-/// Syncs the name of a file that was made and is locked. If that can't be done, or a log with records is beside the
-/// file, the file is removed.
-pub(crate) fn named_for_good<R: Files<File = File> + AllocGlobal>(
+/// Removes a file that was made and is locked if a log with records is beside it.
+pub(crate) fn named_alone<R: Files<File = File> + AllocGlobal>(
     rt: &R,
     path: &str,
     file: &File,
-    folder: &File,
 ) -> Result<(), LogTrouble> {
-    let trouble = match is_named_alone(rt, path, file, folder) {
-        Ok(true) => return Ok(()),
-        Ok(false) => None,
-        Err(trouble) => trouble,
-    };
-    let _ = remove_named(rt, path, file);
-    Err(trouble)
+    let named = look_alone(rt, path, file);
+    if named.is_err() {
+        let _ = remove_named(rt, path, file);
+    }
+    named
 }
